@@ -11,7 +11,7 @@ use lib.Dec.{ltb}
 use lib.ListN.{length, getD}
 use Rattle.std.proofs.shelf.Counted.{length-map-counting, getD-map-counting}
 use Rattle.std.proofs.shelf.Lists.{getD-past}
-use Rattle.std.proofs.shelf.Tests.{cases-lt, cases-eq, false≢true, ltb-true, ltb-false}
+use Rattle.std.proofs.shelf.Tests.{cases-lt, cases-eq, false≢true, ltb-true}
 use Rattle.std.specs.declared.option.Option.{Option}
 use Rattle.std.specs.declared.option.Option.the-variants.{Some, None}
 use Rattle.std.specs.declared.result.Result.{Result}
@@ -23,7 +23,6 @@ use Rattle.lock.specs.declared.answer.Answer.the-variants.{Done, Entered, Left
 use Rattle.lock.specs.declared.refusal.Refusal.{Refusal}
 use Rattle.lock.specs.declared.refusal.Refusal.the-variants.{NoWorker}
 use Rattle.lock.specs.Rules.{Request, stepping, place-at, place-answer, Nobody, Leads, Obeys, Sound, Due, Fits, Not-farther, Nearer}
-use Rattle.lock.specs.Calls.{index-answer}
 use Rattle.lock.specs.Distance.{listed, nearest, anyone, is-inside, is-waiting, due-of}
 use Rattle.lock.proofs.Least.{Nearest, nearest-is, anyone-true, anyone-false}
 
@@ -42,14 +41,6 @@ listed-at f v l = getD-map-counting f 0 16 v v Out l (omega arith)
 
 past : (f : ℕ → Place) (v : ℕ) → 16 ≤ v → place-at (listed f) v ≡ Out
 past f v l = getD-past (listed f) v Out (omega (arith, listed-length f))
-
--- what `index_of` tells
-pub index-unknown : (w : ℕ) (x : Refusal) → Err x ≡ index-answer w → 16 ≤ w
-index-unknown w x e = go (ltb w 16) refl e
-  where
-    go : (b : Bool) → ltb w 16 ≡ b → Err x ≡ cond b (Ok w) (Err NoWorker) → 16 ≤ w
-    go true t k = let z : _≡_ {A = ℕ} 0 1 = cc in absurd (omega arith)
-    go false t k = ltb-false w 16 t
 
 -- what `place` answers
 pub place-listed : (f : ℕ → Place) (w : ℕ) → cond (ltb w 16) (Ok (f w)) (Err NoWorker) ≡ place-answer (listed f) w

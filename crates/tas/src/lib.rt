@@ -13,6 +13,7 @@ use lock::Place;
 use lock::Refusal;
 use lock::due_over;
 use lock::index_of;
+use lock::label_of;
 use words::Words;
 
 // The lock: its words, with what holds of them at every moment.
@@ -29,10 +30,7 @@ pub impl Distances for Tas as TasDistances {
     ghost distances = { λ s. distance (s .words) };
 
     fn place_of(&self, w: u8) -> Place {
-        match index_of(w) {
-            Ok(i) => self.words.at[i],
-            Err(_) => Place::Out,
-        }
+        label_of(&self.words.at, w, Place::Out)
     }
 
     fn distance_of(&self, w: u8) -> Option<u32> {
