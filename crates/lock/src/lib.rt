@@ -3,7 +3,7 @@
 mod answer;
 mod due;
 mod interface;
-mod label;
+mod items;
 mod place;
 mod refusal;
 
@@ -14,7 +14,7 @@ pub use due::Distances;
 pub use due::due_over;
 pub use interface::Lock;
 pub use interface::index_of;
-pub use label::label_of;
+pub use items::item_or;
 pub use place::Place;
 pub use place::PlaceDisplay;
 pub use place::PlacePartialEq;

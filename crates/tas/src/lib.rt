@@ -13,7 +13,7 @@ use lock::Place;
 use lock::Refusal;
 use lock::due_over;
 use lock::index_of;
-use lock::label_of;
+use lock::item_or;
 use words::Words;
 
 // The lock: its words, with what holds of them at every moment.
@@ -30,7 +30,7 @@ pub impl Distances for Tas as TasDistances {
     ghost distances = { λ s. distance (s .words) };
 
     fn place_of(&self, w: u8) -> Place {
-        label_of(&self.words.at, w, Place::Out)
+        item_or(&self.words.at, w, Place::Out)
     }
 
     fn distance_of(&self, w: u8) -> Option<u32> {
