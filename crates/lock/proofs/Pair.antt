@@ -43,7 +43,7 @@ past : (f : ℕ → Place) (v : ℕ) → 16 ≤ v → place-at (listed f) v ≡ 
 past f v l = getD-past (listed f) v Out (omega (arith, listed-length f))
 
 -- what `place` answers
-pub place-listed : (f : ℕ → Place) (w : ℕ) → cond (ltb w 16) (Ok (f w)) (Err NoWorker) ≡ place-answer (listed f) w
+pub place-listed : (f : ℕ → Place) (w : ℕ) → place-answer f w ≡ place-answer (place-at (listed f)) w
 place-listed f w = go (ltb w 16) refl
   where
     go : (b : Bool) → ltb w 16 ≡ b → _≡_ {A = Result Place Refusal} (cond b (Ok (f w)) (Err NoWorker)) (cond b (Ok (place-at (listed f) w)) (Err NoWorker))

@@ -29,9 +29,9 @@ Nobody ps p = (w : ℕ) → place-at ps w ≡ p → ⊥
 abbrev pub Somebody : List Place → Place → Type 0
 Somebody ps p = ∥ ((w : ℕ) × (place-at ps w ≡ p)) ∥₁
 
--- what `place` answers
-abbrev pub place-answer : List Place → ℕ → Result Place Refusal
-place-answer ps w = cond (ltb w 16) (Ok (place-at ps w)) (Err NoWorker)
+-- what `place` answers, where f gives each worker's place
+abbrev pub place-answer : (ℕ → Place) → ℕ → Result Place Refusal
+place-answer f w = cond (ltb w 16) (Ok (f w)) (Err NoWorker)
 
 -- ## One call
 

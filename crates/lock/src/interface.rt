@@ -5,7 +5,7 @@ ghost use lib.ListN.{replicate};
 ghost use Rattle.std.specs.declared.option.Option.{Option};
 ghost use Rattle.lock.specs.declared.place.Place.{Place};
 ghost use Rattle.lock.specs.declared.place.Place.the-variants.{Out};
-ghost use Rattle.lock.specs.Rules.{Obeys, Sound, place-answer, locking, unlocking, stepping};
+ghost use Rattle.lock.specs.Rules.{Obeys, Sound, place-at, place-answer, locking, unlocking, stepping};
 ghost use Rattle.lock.specs.Calls.{index-answer};
 use crate::Answer;
 use crate::Place;
@@ -43,7 +43,7 @@ pub trait Lock: Sized {
         ensures { λ r. ⌜ Obeys places pair stepping w r (now (self .entry)) (now (self .exit)) ⌝ };
 
     fn place(&self, w: u8) -> Result<Place, Refusal>
-        ensures { λ r. ⌜ r ≡ place-answer (places (now (self .entry))) w ⌝ };
+        ensures { λ r. ⌜ r ≡ place-answer (place-at (places (now (self .entry)))) w ⌝ };
 
     fn due(&self) -> Option<(u8, u32)>
         ensures { λ r. ⌜ r ≡ pair (now (self .entry)) ⌝ };

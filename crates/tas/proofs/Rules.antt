@@ -21,10 +21,10 @@ use Rattle.lock.specs.declared.answer.Answer.{Answer}
 use Rattle.lock.specs.declared.answer.Answer.the-variants.{Done, Entered, Left}
 use Rattle.lock.specs.declared.refusal.Refusal.{Refusal}
 use Rattle.lock.specs.declared.refusal.Refusal.the-variants.{Idle}
-use Rattle.lock.specs.Rules.{Request, locking, unlocking, stepping, Obeys, Sound, Leads, place-answer}
+use Rattle.lock.specs.Rules.{Request, locking, unlocking, stepping, Obeys, Sound, Leads}
 use Rattle.lock.specs.Calls.{Outcome, upd}
 use Rattle.lock.specs.Distance.{listed}
-use Rattle.lock.proofs.Pair.{Some-distance, Fitting, Onward, place-listed}
+use Rattle.lock.proofs.Pair.{Some-distance, Fitting, Onward}
 use Rattle.lock.proofs.Labelled as labelled
 use Rattle.lock.proofs.Labelled.{Kind, Free, Waits, read-set, upd-same, upd-other}
 use Rattle.tas.specs.declared.words.Words.{Words}
@@ -189,6 +189,3 @@ told s t w q r o e g = labelled.lifted kind (λ (z : Tas). z .words) same-lock q
 pub new-out : (s : Tas) → s .words ≡ new-words → listed (label (s .words)) ≡ replicate 16 Out
 unfolding listed
 new-out s e = ap (λ x. listed (label x)) e
-
-pub placed : (s : Words) (w : ℕ) (r : Result Place Refusal) → r ≡ place-answer (s .at) w → r ≡ place-answer (listed (label s)) w
-placed s w r e = e ∙ place-listed (label s) w

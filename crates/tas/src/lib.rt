@@ -82,7 +82,7 @@ pub impl Lock for Tas as TasLock {
     }
 
     fn place(&self, w: u8) -> Result<Place, Refusal>
-        ensures { λ r. ⌜ r ≡ place-answer (now (self .entry) .words .at) w ⌝ }
+        ensures { λ r. ⌜ r ≡ place-answer (label (now (self .entry) .words)) w ⌝ }
     {
         let i = index_of(w)?;
         Ok(self.words.at[i])

@@ -1,4 +1,7 @@
-use Rattle.tas.proofs.Rules.{every-state, told, placed, lock-good, unlock-good, step-good, new-out}
+use mathlib.Core.Path.{_∙_}
+use Rattle.lock.proofs.Pair.{place-listed}
+use Rattle.tas.specs.Accesses.{label}
+use Rattle.tas.proofs.Rules.{every-state, told, lock-good, unlock-good, step-good, new-out}
 use Rattle.tas.proofs.TasLock.the-impl.Needs as need
 
 pub sound-law : need.sound-law
@@ -17,4 +20,4 @@ pub step-tells : need.step-tells
 step-tells c = let s = c .args .self .now in told s _ (c .args .w) _ _ _ (c .ensures) (step-good s (c .args .w))
 
 pub place-tells : need.place-tells
-place-tells c = placed (c .args .self .now .words) (c .args .w) _ (c .ensures)
+place-tells c = c .ensures ∙ place-listed (label (c .args .self .now .words)) (c .args .w)
