@@ -56,8 +56,8 @@ pub record Kind {S Label : Type 0} (label : S → ℕ → Label) (place : Label 
   pub some : (s : S) → Facts s → Free place (label s) → Waits place (label s) → Some-distance (distance s (label s))
   pub fitting : (s : S) (v d : ℕ) → distance s (label s) v ≡ Some d → Fitting bound (place (label s v)) d
   pub sole : (s : S) → Facts s → (v w : ℕ) → place (label s v) ≡ Inside → place (label s w) ≡ Inside → v ≡ w
-  pub held : (s : S) → Facts s → (w : ℕ) → place (label s w) ≡ Inside → mark s w ≡ true
-  pub free : (s : S) → Facts s → (w : ℕ) → place (label s w) ≡ Out → mark s w ≡ false
+  pub held : (s : S) → Facts s → (w : ℕ) → w < 16 → place (label s w) ≡ Inside → mark s w ≡ true
+  pub free : (s : S) → Facts s → (w : ℕ) → w < 16 → place (label s w) ≡ Out → mark s w ≡ false
 
 module _ {S Label : Type 0} {label : S → ℕ → Label} {place : Label → Place} {distance-by : S → (ℕ → Label) → ℕ → Option ℕ} {mark : S → ℕ → Bool} {bound : ℕ} {Facts : S → Type 0}
     (kind : Kind label place distance-by mark bound Facts) where
@@ -142,12 +142,12 @@ module _ {S Label : Type 0} {label : S → ℕ → Label} {place : Label → Pla
       unlocked leave keep = looked unlocking w _ (λ lt. go lt (stands s w) refl)
         where
           outside : w < 16 → stands s w ≡ Out → (b : Bool) → mark s w ≡ b → Good unlocking w (cond {A = Outcome S} b (t, Ok Done) (s, Err NotHeld))
-          outside lt at true e = absurd (∥∥₁-elim ok ⊥-prop (λ f. false≢true (sym (kind .free s f w at) ∙ e)))
+          outside lt at true e = absurd (∥∥₁-elim ok ⊥-prop (λ f. false≢true (sym (kind .free s f w lt at) ∙ e)))
           outside lt at false e = refused unlocking w lt Out at NotHeld (refl, refl)
 
           within : w < 16 → stands s w ≡ Inside → (b : Bool) → mark s w ≡ b → Good unlocking w (cond {A = Outcome S} b (t, Ok Done) (s, Err NotHeld))
           within lt at true e = goes unlocking w lt Inside at t Done l (to lt) (refl, leave) (keep lt at) (λ f n. absurd (n w lt at))
-          within lt at false e = absurd (∥∥₁-elim ok ⊥-prop (λ f. false≢true (sym e ∙ kind .held s f w at)))
+          within lt at false e = absurd (∥∥₁-elim ok ⊥-prop (λ f. false≢true (sym e ∙ kind .held s f w lt at)))
 
           go : w < 16 → (p : Place) → stands s w ≡ p → Good unlocking w (unlocks p (mark s w) s t)
           go lt Out at = outside lt at (mark s w) refl

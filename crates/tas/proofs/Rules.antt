@@ -90,8 +90,8 @@ kind = record {
   some = some;
   fitting = λ s v d e. fitting (label s v) (s .holder) d e;
   sole = λ s f v w a b. let z : Some v ≡ Some w = sym (holder s f v (ap holding a)) ∙ holder s f w (ap holding b) in cc;
-  held = λ s f w at. sym (f .1 w) ∙ ap holding at;
-  free = λ s f w at. sym (f .1 w) ∙ ap holding at;
+  held = λ s f w lt at. sym (f .1 w) ∙ ap holding at;
+  free = λ s f w lt at. sym (f .1 w) ∙ ap holding at;
 }
 
 -- ## The calls

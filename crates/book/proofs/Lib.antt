@@ -1,0 +1,9 @@
+pub mod Accepted
+pub mod Safe
+pub mod Standing
+pub mod Alone
+pub mod Keeping
+pub mod Turns
+pub mod Soon
+pub mod Lawful
+pub mod Runs

@@ -1,0 +1,6 @@
+pub mod Causes
+pub mod Stock
+pub mod History
+pub mod Life
+pub mod Law
+pub mod Ran
