@@ -2,9 +2,8 @@
 use mathlib.Core.Path.{_≡_, refl, sym, ap, _∙_}
 use mathlib.Core.List.{List, [], _∷_, _++_, map, reverse}
 use Prim.Native.Nat.{ℕ, _+_, _<_}
-use native.Mathlib.Omega.{arith}
-use lib.ListN.{length, getD, set, take, drop}
-use Rattle.std.proofs.shelf.Lists.{take-more, map-push, reverse-append, drop-drop, drop-set-lt}
+use lib.ListN.{length, getD, take}
+use Rattle.std.proofs.shelf.Lists.{take-more, map-push, reverse-append}
 use Rattle.std.specs.declared.option.Option.{Option}
 use Rattle.std.specs.declared.result.Result.{Result}
 use Rattle.lock.specs.declared.place.Place.{Place}
@@ -25,10 +24,6 @@ pub record Lived {S : Type 0} (places : S → List Place) (pair : S → Option (
   pub asked : events-of history ≡ es
   pub answered : answers-of history ≡ rs
   pub life : Life places pair history book
-
--- a write at i leaves what lies past it
-pub past-more : {A : Type 0} (xs xs′ ys : List A) (i j : ℕ) (x : A) → xs′ ≡ set xs j x → j ≡ i → drop i xs ≡ drop i ys → drop (i + 1) xs′ ≡ drop (i + 1) ys
-past-more xs xs′ ys i j x e k d = ap (drop (i + 1)) e ∙ (drop-set-lt (i + 1) xs j x (omega arith) ∙ (sym (drop-drop 1 i xs) ∙ (ap (drop 1) d ∙ drop-drop 1 i ys)))
 
 -- one more turn, oldest first
 turned : {A : Type 0} (f : Turn → A) (t : Turn) (h : History) → map f (reverse (t ∷ h)) ≡ map f (reverse h) ++ f t ∷ []

@@ -7,18 +7,16 @@ use lib.ListN.{getD, set}
 use Rattle.std.specs.declared.option.Option.{Option}
 use Rattle.std.specs.declared.option.Option.the-variants.{Some, None}
 use Rattle.std.specs.declared.result.Result.{Result}
-use Rattle.std.specs.declared.result.Result.the-variants.{Ok}
 use Rattle.lock.specs.declared.place.Place.the-variants.{Inside}
 use Rattle.lock.specs.declared.answer.Answer.{Answer}
-use Rattle.lock.specs.declared.answer.Answer.the-variants.{Done}
 use Rattle.lock.specs.declared.refusal.Refusal.{Refusal}
 use Rattle.lock.specs.Calls.{Outcome}
 use Rattle.book.specs.declared.call.Call.the-variants.{Enter}
 use Rattle.book.specs.declared.table.Slip.{Slip}
 use Rattle.book.specs.declared.table.Table.{Table}
-use Rattle.book.specs.Causes.{causes, first}
-use Rattle.book.specs.Stock.{slip-at, with-slip, recorded, refused-or, slip-weight, slip-grams}
-use Rattle.book.proofs.Accepted.{enter-accepted}
+use Rattle.book.specs.Causes.{cause}
+use Rattle.book.specs.Stock.{slip-at, with-slip, recorded, refused-or, entered, slip-weight, slip-grams}
+use Rattle.book.proofs.Accepted.{enter-inside, enter-accepted}
 
 -- what the ghost fields of a book say of its table
 abbrev pub Safe : Table → Type 0
@@ -50,8 +48,8 @@ safe-or : (e : Option Refusal) (tb : Table) (o : Outcome Table) → Safe tb → 
 safe-or None tb o k f = f refl
 safe-or (Some x) tb o k f = k
 
-pub safe-entered : (tb tb′ : Table) (w : ℕ) (r : Result Answer Refusal) → (tb′, r) ≡ refused-or (first (causes Enter Inside (slip-at tb w) (tb .len))) tb (recorded tb w (slip-at tb w), Ok Done) → Safe tb → Safe tb′
+pub safe-entered : (tb tb′ : Table) (w : ℕ) (r : Result Answer Refusal) → (tb′, r) ≡ entered Inside w tb → Safe tb → Safe tb′
 safe-entered tb tb′ w r e k =
     let P : Outcome Table → Type 0 = λ o. Safe (o .0) in
-    subst P (sym e) (safe-or (first (causes Enter Inside (slip-at tb w) (tb .len))) tb _ k
-    (λ none. safe-recorded tb w (enter-accepted (slip-at tb w) (tb .len) none .3) (slip-at tb w) refl k))
+    subst P (sym e) (safe-or (cause Enter w Inside (slip-at tb w) (tb .len)) tb _ k
+    (λ none. safe-recorded tb w (enter-accepted (slip-at tb w) (tb .len) (enter-inside w Inside (slip-at tb w) (tb .len) none .2) .3) (slip-at tb w) refl k))

@@ -39,11 +39,31 @@ Answered (Some e) c p r = r ≡ Err e
 Answered None c p (Ok a) = Can-answer c p a
 Answered None c p (Err e) = ⊥
 
+-- ## What holds of a turn, after what came before it
+
+-- the call was accepted, or refused with the first cause of the table that applies
+abbrev pub Tabled : Turn → History → Type 0
+Tabled t before = Answered (cause-after before (t .worker) (t .call)) (t .call) (place-of (t .worker) before) (t .answer)
+
+-- an unlock was accepted exactly when its caller's count was 1
+abbrev pub Released : Turn → History → Type 0
+Released t before = t .call ≡ Unlock → (t .answer ≡ Ok Done) ↔ (count (t .worker) before ≡ 1)
+
+-- an accepted look answered found exactly when its chest had an accepted enter by then
+abbrev pub Looked : Turn → History → Type 0
+Looked t before = (c g : ℕ) → t .call ≡ Look c g → (a : Answer) → t .answer ≡ Ok a → (a ≡ Found) ↔ (1 ≤ copies c (stock-of before))
+
+-- ## What holds at a moment, of the history so far
+
 -- a worker's count is 0 or 1, and all of them together come to at most 1
 pub record Counted (h : History) : Type 0 where
   pub ordered : (w : ℕ) → tally an-unlock w h ≤ tally an-entry w h
   pub single : (w : ℕ) → count w h ≤ 1
   pub together : (n : ℕ) → counts n h ≤ 1
+
+-- each chest has at most one accepted enter
+abbrev pub Entered-once : History → Type 0
+Entered-once h = (c : ℕ) → copies c (stock-of h) ≤ 1
 
 -- the lock's places ps and the table tb are as the history says
 pub record Agrees (h : History) (ps : List Place) (tb : Table) : Type 0 where
@@ -60,22 +80,27 @@ pub record Moment {S : Type 0} (places : S → List Place) (pair : S → Option 
   pub life : Life places pair h book
   pub agrees : Agrees h (places (book .lock)) (book .table)
 
--- The law of a book with the history h, newest first. A turn t is any turn of it, with what came before; a part is what had come up to
--- any moment.
+-- where nobody is inside before and somebody waits, fewer due steps than the bound come during a time without an entry
+abbrev pub Prompt : ℕ → History → History → Type 0
+Prompt bound during before =
+    ((w : ℕ) → place-of w before ≡ Inside → ⊥) → (w : ℕ) → place-of w before ≡ Waiting → countBy an-entry during ≡ 0 → countBy a-due-step during < bound
+
+-- ## The law
+
+abbrev pub Each-turn : History → (Turn → History → Type 0) → Type 0
+Each-turn h P = (later before : History) (t : Turn) → h ≡ later ++ t ∷ before → P t before
+
+abbrev pub Each-moment : History → (History → Type 0) → Type 0
+Each-moment h P = (later before : History) → h ≡ later ++ before → P before
+
+-- the law of a book with the history h
 pub record Law {S : Type 0} (places : S → List Place) (pair : S → Option (ℕ × ℕ)) (bound : ℕ) (h : History) (book : Book S) : Type 0 where
-  -- each call was accepted, or refused with the first cause of the table that applies
-  pub table : (later before : History) (t : Turn) → h ≡ later ++ t ∷ before → Answered (cause-after before (t .worker) (t .call)) (t .call) (place-of (t .worker) before) (t .answer)
-  -- at every moment
-  pub counts : (later part : History) → h ≡ later ++ part → Counted part
-  -- an unlock was accepted exactly when its caller's count was 1
-  pub released : (later before : History) (t : Turn) → h ≡ later ++ t ∷ before → t .call ≡ Unlock → (t .answer ≡ Ok Done) ↔ (count (t .worker) before ≡ 1)
-  -- the lock's places, the records, the weight and the slips, now and at every moment
+  pub table : Each-turn h Tabled
+  pub counts : Each-moment h Counted
+  pub released : Each-turn h Released
+  -- places, records, weight and slips, now and at every moment
   pub agrees : Agrees h (places (book .lock)) (book .table)
-  pub moments : (later part : History) → h ≡ later ++ part → ∥ Moment places pair part ∥₁
-  -- each chest has at most one accepted enter
-  pub once : (later part : History) → h ≡ later ++ part → (c : ℕ) → copies c (stock-of part) ≤ 1
-  -- an accepted look answered found exactly when its chest had an accepted enter by then
-  pub looked : (later before : History) (t : Turn) → h ≡ later ++ t ∷ before → (c g : ℕ) → t .call ≡ Look c g → (a : Answer) → t .answer ≡ Ok a → (a ≡ Found) ↔ (1 ≤ copies c (stock-of before))
-  -- from a moment when nobody is inside and somebody waits, fewer due steps than the bound come before the next entry or the end
-  pub progress : (later during before : History) → h ≡ later ++ (during ++ before) → ((w : ℕ) → place-of w before ≡ Inside → ⊥) → (w : ℕ) → place-of w before ≡ Waiting
-      → countBy an-entry during ≡ 0 → countBy a-due-step during < bound
+  pub moments : Each-moment h (λ before. ∥ Moment places pair before ∥₁)
+  pub once : Each-moment h Entered-once
+  pub looked : Each-turn h Looked
+  pub progress : (later during before : History) → h ≡ later ++ (during ++ before) → Prompt bound during before

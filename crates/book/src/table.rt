@@ -2,12 +2,8 @@
 ghost use mathlib.Core.Path.{_≡_};
 ghost use Prim.Native.Nat.{_+_, _^_, _≤_, _<_};
 ghost use Rattle.std.specs.declared.option.Option.the-variants.{Some, None};
-ghost use Rattle.std.specs.declared.result.Result.the-variants.{Ok};
-ghost use Rattle.lock.specs.declared.answer.Answer.the-variants.{Done};
 ghost use Rattle.lock.specs.declared.place.Place.the-variants.{Inside};
-ghost use Rattle.book.specs.declared.call.Call.the-variants.{Enter};
-ghost use Rattle.book.specs.Causes.{causes, first};
-ghost use Rattle.book.specs.Stock.{new-table, records-of, holds, slip-at, with-slip, slip-now, found-answer, refused-or, recorded, slip-weight, slip-grams};
+ghost use Rattle.book.specs.Stock.{new-table, records-of, holds, slip-at, with-slip, slip-now, found-answer, entered, slip-weight, slip-grams};
 use lock::Answer;
 use lock::Refusal;
 
@@ -107,7 +103,7 @@ impl Table {
     // Appends what the worker's slip says, for a worker that is inside.
     pub(crate) fn enter(&mut self, i: usize) -> Result<Answer, Refusal>
         requires { ⌜ i < 16 ⌝ ∗ ⌜ now self .len ≤ 256 ⌝ ∗ ⌜ slip-weight (slip-at (now self) i) + slip-grams (slip-at (now self) i) < 2 ^ 32 ⌝ }
-        ensures { λ r. ⌜ (now (self .exit), r) ≡ refused-or (first (causes Enter Inside (slip-at (now (self .entry)) i) (now (self .entry) .len))) (now (self .entry)) (recorded (now (self .entry)) i (slip-at (now (self .entry)) i), Ok Done) ⌝ }
+        ensures { λ r. ⌜ (now (self .exit), r) ≡ entered Inside i (now (self .entry)) ⌝ }
     {
         let Some(slip) = self.slips[i] else {
             return Err(Refusal::NoSlip);

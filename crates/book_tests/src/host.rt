@@ -1,8 +1,10 @@
 // Hosts that make the calls on a book themselves, over any lock.
+ghost use mathlib.Core.Path.{_≡_};
 ghost use mathlib.Core.List.{[], _∷_};
 ghost use Rattle.book.specs.declared.call.Call.{Call};
-ghost use Rattle.book.specs.Life.{Effect};
 ghost use Rattle.book.specs.Ran.{Ran};
+ghost use Rattle.book.specs.Stock.{entered};
+ghost use Rattle.lock.specs.Rules.{place-at};
 use book::Book;
 use book::Call;
 use book::Closed;
@@ -36,9 +38,9 @@ pub fn one_chest<L: Lock>(w: u8, chest: u32, grams: u32) -> Turned<L>
     }
 }
 
-// A last enter, and then the book is closed.
+// A last enter, and then the book is closed: the closed book has what that enter left.
 pub fn close_after<L: Lock + Drop>(mut book: Book<L>, w: u8) -> (Result<Answer, Refusal>, Closed)
-    ensures { λ r. ⌜ ∥ ((s : L) × Effect (L·Lock .places) (L·Lock .pair) Call.Enter w (r .0) (book .lock) (book .table) s (r .1 .table)) ∥₁ ⌝ }
+    ensures { λ r. ⌜ (r .1 .table, r .0) ≡ entered (place-at (L·Lock .places (book .lock)) w) w (book .table) ⌝ }
 {
     let answer = book.enter(w);
     let closed = book.close();

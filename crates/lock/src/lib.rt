@@ -9,6 +9,7 @@ mod refusal;
 
 pub use answer::Answer;
 pub use answer::AnswerDisplay;
+pub use answer::AnswerPartialEq;
 pub use answer::outcome_number;
 pub use due::Distances;
 pub use due::due_over;
@@ -20,3 +21,4 @@ pub use place::PlaceDisplay;
 pub use place::PlacePartialEq;
 pub use refusal::Refusal;
 pub use refusal::RefusalDisplay;
+pub use refusal::RefusalPartialEq;

@@ -10,5 +10,5 @@ Inv-loop-event g l =
     ∥ Lived (g .L·Lock .places) (g .L·Lock .pair) (take (l .event-index) (l .events)) (list-items (l .answers)) (l .book) ∥₁
     × (list-len (l .answers) ≡ l .event-index)
     × (length (l .events) ≤ list-room (l .answers))
-    × (drop (l .event-index) (list-memory (l .answers)) ≡ drop (l .event-index) (list-memory (l .entry .answers)))
+    × (drop (list-len (l .answers)) (list-memory (l .answers)) ≡ drop (list-len (l .answers)) (list-memory (l .entry .answers)))
     × (lender (l .answers) ≡ lender (l .entry .answers))
