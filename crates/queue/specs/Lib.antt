@@ -1,0 +1,3 @@
+pub mod Counter
+pub mod Line
+pub mod Stages
