@@ -1,0 +1,5 @@
+use Rattle.clh.proofs.Nodes.{new-nodes}
+use Rattle.clh.proofs.words.Words.new.Needs as need
+
+pub returns : need.returns
+returns c = new-nodes (c .new .result) (c .new .ensures)

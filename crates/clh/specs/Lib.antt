@@ -1,0 +1,3 @@
+pub mod Accesses
+pub mod Distance
+pub mod Facts

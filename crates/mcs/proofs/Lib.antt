@@ -1,0 +1,4 @@
+pub mod Nodes
+pub mod Keeps
+pub mod Nearing
+pub mod Rules

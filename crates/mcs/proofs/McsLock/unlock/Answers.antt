@@ -1,0 +1,5 @@
+use Rattle.mcs.proofs.Rules.{kept, unlock-good}
+use Rattle.mcs.proofs.McsLock.unlock.Needs as need
+
+pub ghost-self : need.ghost-self
+ghost-self c = let s = c .args .self .now in kept s (c .args .w) _ _ _ _ (c .unlock .ensures) (unlock-good s (c .args .w))
