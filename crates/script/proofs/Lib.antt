@@ -1,0 +1,4 @@
+pub mod Steps
+pub mod Once
+pub mod Forms
+pub mod Whole

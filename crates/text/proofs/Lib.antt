@@ -1,0 +1,4 @@
+pub mod Cutting
+pub mod First
+pub mod Digits
+pub mod Forms
