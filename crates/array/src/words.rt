@@ -56,7 +56,7 @@ impl Words {
     }
 
     // Whether the slot of a worker at the stage is open, its own or that which it would be given.
-    pub fn turn(&self, stage: Stage, slot: Option<u8>) -> bool
+    pub(crate) fn turn(&self, stage: Stage, slot: Option<u8>) -> bool
         requires { ⌜ Below-sixteen slot ⌝ }
         ensures { λ r. ⌜ r ≡ turn-at (now (self .entry) .next) (opened (now (self .entry))) stage slot ⌝ }
     {
@@ -98,7 +98,7 @@ impl Words {
     }
 
     // One access by a worker on its way, which has a slot number from W1 on.
-    pub fn step(&mut self, w: u8) -> Result<Answer, Refusal>
+    pub(crate) fn step(&mut self, w: u8) -> Result<Answer, Refusal>
         requires { ⌜ Below-sixteen (number (now self) w) ⌝ }
         ensures { λ r. ⌜ (now (self .exit), r) ≡ stepped (now (self .entry)) w ⌝ }
     {
