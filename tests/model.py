@@ -1,5 +1,5 @@
 #!/usr/bin/env python3
-"""A second implementation of the rules in docs/, written from them and not from the Rattle code.
+"""A second implementation of the rules that docs/ states, written from the rules and not from the Rattle code.
 
     python3 tests/model.py [KIND ...] < schedule        writes the transcript
 
