@@ -1,4 +1,6 @@
 // The array lock: whoever comes takes the next of sixteen slots, and enters when that slot is open.
+#![tactic(auto)]
+
 mod words;
 
 ghost use Rattle.std.specs.Prelude.{◌≡◌};

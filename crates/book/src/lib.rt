@@ -1,4 +1,6 @@
 // The stock book over any lock: records of chests, their weight, and a slip for each worker inside.
+#![tactic(auto)]
+
 mod call;
 mod calls;
 mod closing;

@@ -1,4 +1,6 @@
 // Hosts of a book, and runs of one over the test-and-set lock.
+#![tactic(auto)]
+
 mod host;
 #[cfg(test)]
 mod runs;

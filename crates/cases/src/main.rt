@@ -1,4 +1,6 @@
 // Transcribes many texts, each ended by a percent sign and a newline, and ends each transcript so.
+#![tactic(auto)]
+
 use anyhow::anyhow;
 use runner::transcribe;
 use std::io::{Read, Write};

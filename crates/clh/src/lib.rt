@@ -1,4 +1,6 @@
 // The lock of Craig, Landin and Hagersten: a worker waits at the node of the one before it.
+#![tactic(auto)]
+
 mod words;
 
 ghost use Rattle.std.specs.Prelude.{◌≡◌};

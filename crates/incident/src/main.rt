@@ -1,6 +1,8 @@
 // The incident that the locks are for, on a lock that marks its holder. Worker 3 is about to enter a
 // chest when the error path of worker 9 unlocks without having locked; worker 7 brings the same chest
 // again. The unlock is refused with 4, nobody gets in between, and the chest enters stock once.
+#![tactic(auto)]
+
 use anyhow::anyhow;
 use book::{Book, Call, Closed, Event, run};
 use list::List;

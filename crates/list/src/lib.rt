@@ -1,4 +1,6 @@
 // One list over the host's memory, for every kind of element.
+#![tactic(auto)]
+
 ghost use Rattle.std.specs.Prelude.{◌≤◌, length};
 
 mod calls;

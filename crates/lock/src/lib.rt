@@ -1,5 +1,7 @@
 // What a lock means: places, answers and refusals with their numbers, the trait that every kind of
 // lock implements, and who is due.
+#![tactic(auto)]
+
 mod answer;
 mod due;
 mod interface;

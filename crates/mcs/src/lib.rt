@@ -1,4 +1,6 @@
 // The lock of Mellor-Crummey and Scott: a worker waits at its own node.
+#![tactic(auto)]
+
 mod words;
 
 ghost use Rattle.std.specs.Prelude.{◌≡◌};

@@ -1,4 +1,6 @@
 // What the calls do with memory that a host lends, and what they leave of it where it is too short.
+#![tactic(auto)]
+
 #[cfg(test)]
 mod tests {
     use book::{Call, Event};

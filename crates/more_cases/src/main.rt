@@ -1,5 +1,7 @@
 // Transcribes many texts, each ended by a percent sign and a newline. After each transcript stands a line of a percent
 // sign and the number of the refusal that the same text gets from memory one byte too short.
+#![tactic(auto)]
+
 use anyhow::anyhow;
 use list::Memory;
 use runner::transcribe;

@@ -1,4 +1,6 @@
 // Lines of key=value and decimal numbers, printed into the host's memory.
+#![tactic(auto)]
+
 mod line;
 mod sink;
 mod writing;

@@ -1,4 +1,6 @@
 // Runs of the ticket lock and the array lock.
+#![tactic(auto)]
+
 ghost use Rattle.queue_tests.specs.Cases.{WrappingTicket, SeventeenthTurn};
 
 // Two runs to the end of a count, as facts of the words.

@@ -1,4 +1,6 @@
 // A table of N values of one kind, of which one is lent at a time and changed.
+#![tactic(auto)]
+
 mod table;
 
 ghost use Rattle.std.specs.Prelude.{◌≡◌, is_some, IfSome, nat_lt, slice_index_or};

@@ -1,5 +1,7 @@
 // Runs schedules: their events on a new book over a new lock of the kind that they name, and the whole way
 // from a text to its transcript.
+#![tactic(auto)]
+
 mod running;
 mod transcribing;
 

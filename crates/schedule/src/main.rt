@@ -1,4 +1,6 @@
 // Reads a schedule from standard input and writes its transcript to standard output.
+#![tactic(auto)]
+
 ghost use Rattle.std.specs.Prelude.{◌≤◌, length, IfOk};
 
 use anyhow::anyhow;

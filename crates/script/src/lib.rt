@@ -1,4 +1,6 @@
 // Schedules: a kind of lock and the events on a book over it, read from a text and written into one.
+#![tactic(auto)]
+
 mod event;
 mod kind;
 mod round;

@@ -1,4 +1,6 @@
 // The test-and-set lock: one word that is free or names its holder.
+#![tactic(auto)]
+
 mod words;
 
 ghost use Rattle.std.specs.Prelude.{◌≡◌};

@@ -1,4 +1,6 @@
 // Lines of key=value and decimal numbers, as they are read from a text.
+#![tactic(auto)]
+
 mod fault;
 mod field;
 mod number;

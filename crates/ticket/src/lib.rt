@@ -1,4 +1,6 @@
 // The ticket lock: whoever comes draws the next ticket, and enters when it is served.
+#![tactic(auto)]
+
 mod words;
 
 ghost use Rattle.std.specs.Prelude.{◌≡◌};

@@ -1,4 +1,6 @@
 // What is said of a schedule: the answers and what they left, or why its text was turned down.
+#![tactic(auto)]
+
 mod answers;
 mod state;
 

@@ -1,4 +1,6 @@
 // Small runs on new locks and books, worked out by hand, as one table.
+#![tactic(auto)]
+
 ghost use Rattle.std.specs.Prelude.{◌≡◌, [], ◌∷◌};
 ghost use Rattle.worked.specs.Bounds.{ruled};
 ghost use Rattle.worked.specs.Table.{Worked};

@@ -16,9 +16,9 @@ loop-v-preserved g c =
     let u = g.D.Distances.distances c.args.words.now in
     let v = c.loop-v.v in
     let i = c.loop-v.invariant in
-    let flags = flags_more f v c.place-of.result c.place-of.ensures _ _ i.0 i.1 in
-    let both : (c.match-place-of.inside ≡ anyone is_inside f (v + 1)) × (c.match-place-of.waiting ≡ anyone is_waiting f (v + 1)) =
-    elim c.match-place-of.branch [
+    let flags = flags_more f v c.place_of.result c.place_of.ensures _ _ i.0 i.1 in
+    let both : (c.match-place_of.inside ≡ anyone is_inside f (v + 1)) × (c.match-place_of.waiting ≡ anyone is_waiting f (v + 1)) =
+    elim c.match-place_of.branch [
       | in-Inside w ↦ flags Inside w.in-Inside.is _ _ w.inside-is w.waiting-is
       | in-Waiting w ↦ flags Waiting w.in-Waiting.is _ _ w.inside-is w.waiting-is
       | in-Out w ↦ ⊎_elim (λ e. flags Out e _ _ w.inside-is w.waiting-is) (λ e. flags Leaving e _ _ w.inside-is w.waiting-is) w.in-Out.is

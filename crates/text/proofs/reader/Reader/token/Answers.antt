@@ -12,7 +12,7 @@ returns-then-end-left c =
     let at = c.args.self.now.at in
     let left = drop at text in
     let place : c.find-end.result ≡ length (before 10 left) = c.find-end.ensures.value ∙ ap (λ l. length (before 10 l)) (take_rest text at) in
-    (refl, lines_cut left (has_not 10 left (omega (arith, length-drop at text))) (some_lines left c.if-is-done.ensures), refl)
+    (refl, lines_cut left (has_not 10 left (omega (arith, length-drop at text))) (some_lines left c.if-is_done.ensures), refl)
 
 pub returns : goal.returns
 returns c =
