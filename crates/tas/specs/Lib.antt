@@ -1,2 +1,3 @@
 pub mod Accesses
 pub mod Distance
+pub mod Laws

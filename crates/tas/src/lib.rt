@@ -8,7 +8,7 @@ ghost use Rattle.lock.specs.Rules.{place_answer};
 ghost use Rattle.lock.specs.Distance.{listed};
 ghost use Rattle.tas.specs.Accesses.{Sixteen, Named, new_words, label, locked, unlocked, stepped};
 ghost use Rattle.tas.specs.Distance.{distance, due_pair};
-ghost use Rattle.std.proofs.Common.{rules, arith};
+ghost use Rattle.tas.specs.Laws.{every_state};
 
 use lock::{Answer, Distances, Lock, Place, Refusal, due_over, index_of, item_or};
 use words::Words;
@@ -48,7 +48,7 @@ impl Lock for Tas {
 
     ghost pair = { λ s. due_pair s.words };
 
-    ghost sound = { first_of (Prim.search rules, Prim.grind (arith, Self.row.coded.inj)) };
+    ghost sound = { λ s. every_state s.words (s.sixteen, s.named) };
 
     fn limit() -> u32 {
         Self::BOUND

@@ -1,5 +1,5 @@
 use Rattle.book.proofs.Safe.{safe_entered}
 use Rattle.book.proofs.Book.enter.Goals as goal
 
-pub invariant-of-self : goal.invariant-of-self
-invariant-of-self g c = let b = c.args.self.now in safe_entered b.table c.enter.new.self c.in-ok-i.i c.enter.result c.enter.ensures (b.within, (b.light, (b.noted, (b.lifted, tt))))
+pub invariant_of-self : goal.invariant_of-self
+invariant_of-self g c = let b = c.args.self.now in safe_entered b.table c.enter.new.self c.in_ok-i.i c.enter.result c.enter.ensures (b.within, (b.light, (b.noted, (b.lifted, tt))))

@@ -3,8 +3,8 @@ use Rattle.book.specs.Stock.{slip_now}
 use Rattle.book.proofs.Safe.{safe_put}
 use Rattle.book.proofs.Book.look.Goals as goal
 
-pub invariant-of-self : goal.invariant-of-self
-invariant-of-self g c =
+pub invariant_of-self : goal.invariant_of-self
+invariant_of-self g c =
     let b = c.args.self.now in
-    safe_put b.table c.look.new.self c.in-ok-i.i (Some (slip_now b.table c.args.chest c.args.grams)) c.look.ensures.after b.light (omega arith)
+    safe_put b.table c.look.new.self c.in_ok-i.i (Some (slip_now b.table c.args.chest c.args.grams)) c.look.ensures.after b.light (omega arith)
     (b.within, (b.light, (b.noted, (b.lifted, tt))))

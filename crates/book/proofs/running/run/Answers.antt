@@ -31,10 +31,10 @@ loop-event-preserved g c =
     )
 
 -- there is room for every answer
-pub returns-in-err-push : goal.returns-in-err-push
-returns-in-err-push g c =
+pub returns-in_err-push : goal.returns-in_err-push
+returns-in_err-push g c =
     let inv = c.loop-event.invariant in
-    absurd (omega (arith, push_full c.loop-event.answers _ (sym c.in-err-push.was ∙ c.push.ensures.value), inv.1, inv.2))
+    absurd (omega (arith, push_full c.loop-event.answers _ (sym c.in_err-push.was ∙ c.push.ensures.value), inv.1, inv.2))
 
 pub returns : goal.returns
 returns g c =

@@ -4,15 +4,15 @@ use Rattle.text.specs.Decimal.{Plain}
 use Rattle.text.proofs.Digits.{plain_decimal, text_decimal, writes_back}
 use Rattle.text.proofs.number.number_in.Goals as goal
 
-pub returns-then-not-is-plain : goal.returns-then-not-is-plain
-returns-then-not-is-plain c n le e = c.if-not-is-plain.ensures (subst Plain (sym e) (plain_decimal n (omega arith)))
+pub returns-then-not-is_plain : goal.returns-then-not-is_plain
+returns-then-not-is_plain c n le e = c.if-not-is_plain.ensures (subst Plain (sym e) (plain_decimal n (omega arith)))
 
-pub returns-in-default : goal.returns-in-default
-returns-in-default c n le e = c.in-default.ensures.cases.0 (subst IsUtf8 (sym e) (text_decimal n (omega arith)))
+pub returns-in_default : goal.returns-in_default
+returns-in_default c n le e = c.in_default.ensures.cases.0 (subst IsUtf8 (sym e) (text_decimal n (omega arith)))
 
-pub returns-in-default-parse : goal.returns-in-default-parse
-returns-in-default-parse c n le e =
-    c.in-default-parse.not-Ok n (parse-decimal 32 n c.in-Ok.text.now c.parse.result (omega arith) (omega arith) (c.in-Ok.ensures.cases.0 ∙ e) c.parse.ensures.value.0)
+pub returns-in_default-parse : goal.returns-in_default-parse
+returns-in_default-parse c n le e =
+    c.in_default-parse.not-Ok n (parse-decimal 32 n c.in-Ok.text.now c.parse.result (omega arith) (omega arith) (c.in-Ok.ensures.cases.0 ∙ e) c.parse.ensures.value.0)
 
 pub returns-then-n-max : goal.returns-then-n-max
 returns-then-n-max c =

@@ -9,5 +9,9 @@ pub returns-then-i : goal.returns-then-i
 unfolding with
 returns-then-i g c = (
   lent _ _ (with c.args.self.now c.args.i) (λ x. refl),
-  (sym (lt-ltb c.args.i g.row.N (omega arith)), λ d. get_or_default c.args.self.now.items c.args.i _ _ (omega (arith, c.args.self.now.whole))),
+  record {
+    follows = tt;
+    test = sym (lt-ltb c.args.i g.row.N (omega arith));
+    value = λ d. get_or_default c.args.self.now.items c.args.i _ _ (omega (arith, c.args.self.now.whole));
+  },
 )
