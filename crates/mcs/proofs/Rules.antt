@@ -15,6 +15,7 @@ use Rattle.lock.specs.Calls.{Outcome, locks, upd}
 use Rattle.lock.specs.Distance.{listed}
 use Rattle.lock.proofs.Pair.{Onward}
 use Rattle.lock.proofs.Small.{all_same, never}
+use Rattle.lock.proofs.Single.{sound_prop}
 use Rattle.lock.proofs.Labelled as labelled
 use Rattle.lock.proofs.Labelled.{Kind, Free, Waits, read_set, upd_same}
 use Rattle.queue.specs.Line.{Line, empty, joined, handed}
@@ -206,8 +207,12 @@ module _ (t : Mcs) (w : ℕ) where
 sixteen_prop : (s : Words) (p q : Sixteen s) → p ≡ q
 sixteen_prop s p q = ℕ_set _ _ p q
 
-pub kept : (s : Mcs) (w : ℕ) (q : Request) (x : Words) (r : Result Answer Refusal) (o : Outcome Words) → (x, r) ≡ o → Good s w q o → Sixteen x × (Lined x × Unit {0})
-kept s w q x r o e g = turnwise.kept Sixteen Ordered sixteen_prop s.words x r o (facts s w) e g.0
+-- what a lock of such words owes
+owed : (x : Words) → Sixteen x → Lined x → record { sixteen : Sixteen x; lined : Lined x; sound : Sound 10 (listed (place x)) (due_pair x) }
+owed x n l = record { sixteen = n; lined = l; sound = labelled.sound kind x (∥∥₁_map l (λ f. (n, f))) }
+
+pub kept : (s : Mcs) (w : ℕ) (q : Request) (x : Words) (r : Result Answer Refusal) (o : Outcome Words) → (x, r) ≡ o → Good s w q o → record { sixteen : Sixteen x; lined : Lined x; sound : Sound 10 (listed (place x)) (due_pair x) }
+kept s w q x r o e g = let k = turnwise.kept Sixteen Ordered sixteen_prop s.words x r o (facts s w) e g.0 in owed x k.0 k.1
 
 -- a lock is its words
 same_lock : (s t : Mcs) → s.words ≡ t.words → s ≡ t
@@ -215,10 +220,8 @@ same_lock s t e = λ i. record {
   words = e i;
   sixteen = is_prop→PathP (λ j. Sixteen (e j)) (λ j. sixteen_prop (e j)) s.sixteen t.sixteen i;
   lined = is_prop→PathP (λ j. Lined (e j)) (λ j. ∥∥₁_prop) s.lined t.lined i;
+  sound = is_prop→PathP (λ j. Sound 10 (listed (place (e j))) (due_pair (e j))) (λ j. sound_prop _ _ _) s.sound t.sound i;
 }
-
-pub every_state : (s : Mcs) → Sound 10 (listed (place s.words)) (due_pair s.words)
-every_state s = labelled.sound kind s.words (facts s 0)
 
 pub told : (s t : Mcs) (w : ℕ) (q : Request) (r : Result Answer Refusal) (o : Outcome Words) → (t.words, r) ≡ o → Good s w q o → Obeys (λ z. listed (place z.words)) (λ z. due_pair z.words) q w r s t
 told s t w q r o e g = labelled.lifted kind (λ (z : Mcs). z.words) same_lock q w s t r o e g.1
@@ -246,5 +249,5 @@ new_lined = ∣ (
   },
 ) ∣₁
 
-pub new_kept : (x : Words) → x ≡ new_words → Sixteen x × (Lined x × Unit {0})
-new_kept x e = (subst Sixteen (sym e) refl, (subst Lined (sym e) new_lined, tt))
+pub new_kept : (x : Words) → x ≡ new_words → record { sixteen : Sixteen x; lined : Lined x; sound : Sound 10 (listed (place x)) (due_pair x) }
+new_kept x e = owed x (subst Sixteen (sym e) refl) (subst Lined (sym e) new_lined)

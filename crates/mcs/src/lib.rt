@@ -4,12 +4,12 @@
 mod words;
 
 ghost use Rattle.std.specs.Prelude.{◌≡◌};
-ghost use Rattle.lock.specs.Rules.{place_answer};
+ghost use Rattle.lock.specs.Rules.{Sound, place_answer};
 ghost use Rattle.lock.specs.Distance.{listed};
 ghost use Rattle.mcs.specs.Accesses.{new_words, place, locked, unlocked, stepped};
 ghost use Rattle.mcs.specs.Distance.{distance, due_pair};
 ghost use Rattle.mcs.specs.Facts.{Sixteen, Lined};
-ghost use Rattle.std.proofs.Common.{rules, arith};
+ghost use Rattle.lock.proofs.Single.{sound_prop};
 
 use lock::{Answer, Distances, Lock, Place, Refusal, due_over, index_of, item_or};
 use words::{Label, Words};
@@ -20,6 +20,7 @@ pub struct Mcs {
     words: Words,
     ghost sixteen: { Sixteen words },
     ghost lined: { Lined words },
+    ghost sound: { Sound 10 (listed (place words)) (due_pair words) } by { sound_prop _ _ _ },
 }
 
 impl Distances for Mcs {
@@ -60,7 +61,7 @@ impl Lock for Mcs {
 
     ghost pair = { λ s. due_pair s.words };
 
-    ghost sound = { first_of (Prim.search rules, Prim.grind (arith, Self.row.coded.inj)) };
+    ghost sound = { λ s. s.sound };
 
     fn limit() -> u32 {
         Self::BOUND

@@ -106,7 +106,7 @@ module _ {S : Type 0} {stage : S → ℕ → Stage} {turn mark : S → ℕ → B
 
 -- what a call leaves of facts whose second part is known to hold and not in which way
 pub kept : {S : Type 0} (Sized Ordered : S → Type 0) → ((x : S) (p q : Sized x) → p ≡ q) → (s x : S) (r : Result Answer Refusal) (o : Outcome S)
-    → ∥ Sized s × Ordered s ∥₁ → (x, r) ≡ o → (Sized s × Ordered s → Sized o.0 × Ordered o.0) → Sized x × (∥ Ordered x ∥₁ × Unit {0})
+    → ∥ Sized s × Ordered s ∥₁ → (x, r) ≡ o → (Sized s × Ordered s → Sized o.0 × Ordered o.0) → Sized x × ∥ Ordered x ∥₁
 kept {S} Sized Ordered prop s x r o ok e keep =
     let after : ∥ Sized x × Ordered x ∥₁ = ∥∥₁_map ok (λ f. subst (λ (p : Outcome S). Sized p.0 × Ordered p.0) (sym e) (keep f)) in
-    (∥∥₁_elim after (prop x) (λ f. f.0), (∥∥₁_map after (λ f. f.1), tt))
+    (∥∥₁_elim after (prop x) (λ f. f.0), ∥∥₁_map after (λ f. f.1))

@@ -15,13 +15,76 @@ use Rattle.lock.specs.Rules.{Request, locking, unlocking, stepping, Obeys, Sound
 use Rattle.lock.specs.Calls.{Outcome, upd}
 use Rattle.lock.specs.Distance.{listed}
 use Rattle.lock.proofs.Pair.{SomeDistance, Fitting, Onward}
+use Rattle.lock.proofs.Small.{all_same}
+use Rattle.lock.proofs.Single.{sound_prop}
 use Rattle.lock.proofs.Labelled as labelled
 use Rattle.lock.proofs.Labelled.{Kind, Free, Waits, read_set, upd_same, upd_other}
 use Rattle.tas.specs.declared.words.Words.{Words}
 use Rattle.tas.specs.declared.Tas.{Tas}
 use Rattle.tas.specs.Accesses.{new_words, label, names, put, W0, access, locked, unlocked, stepped, Sixteen, holding, Named}
 use Rattle.tas.specs.Distance.{distance_at, due_pair}
-use Rattle.tas.specs.Laws.{Facts, mark, distance_by, none_some, holder, kind}
+
+abbrev pub Facts : Words → Type 0
+Facts s = Sixteen s × Named s
+
+abbrev pub mark : Words → ℕ → Bool
+mark s w = names s.holder w
+
+-- the distances, where L are the labels
+abbrev pub distance_by : Words → (ℕ → Place) → ℕ → Option ℕ
+distance_by s L v = distance_at (L v) s.holder
+
+none_some : {d : ℕ} → None ≡ Some d → ⊥
+none_some {d} e = let z : ◌≡◌ {A = ℕ} 0 1 = cc in omega arith
+
+is_named : (o : Option ℕ) (w : ℕ) → names o w ≡ true → o ≡ Some w
+is_named None w e = absurd (false≢true e)
+is_named (Some h) w e = ap Some (eqb-true h w e)
+
+module _ (s : Words) (f : Facts s) where
+  -- who is inside or leaving is the one that the word names
+  holder : (w : ℕ) → holding (label s w) ≡ true → s.holder ≡ Some w
+  holder w e = is_named s.holder w (sym (f.1 w) ∙ e)
+
+  held_by : (h : ℕ) → s.holder ≡ Some h → holding (label s h) ≡ true
+  held_by h e = f.1 h ∙ (ap (λ o. names o h) e ∙ eq-eqb h h refl)
+
+  below : (h : ℕ) → s.holder ≡ Some h → h < 16
+  below h e = elim (cases_lt h 16) [
+    | inl l ↦ l
+    | inr l ↦ absurd (false≢true (sym (ap holding (get_or_past s.at h Out (omega (arith, f.0)))) ∙ held_by h e))
+  ]
+
+-- ## The distances at every state
+
+some : (s : Words) → Facts s → Free (λ p. p) (label s) → Waits (λ p. p) (label s) → SomeDistance (distance_by s (label s))
+some s f free (w, l, e) = by_word s.holder refl
+  where
+    by_place : (h : ℕ) → s.holder ≡ Some h → (p : Place) → label s h ≡ p → SomeDistance (distance_by s (label s))
+    by_place h k Out i = absurd (false≢true (sym (ap holding i) ∙ held_by s f h k))
+    by_place h k Waiting i = absurd (false≢true (sym (ap holding i) ∙ held_by s f h k))
+    by_place h k Inside i = absurd (free h (below s f h k) i)
+    by_place h k Leaving i = (h, 2, below s f h k, ap (λ p. distance_at p s.holder) i)
+
+    by_word : (o : Option ℕ) → s.holder ≡ o → SomeDistance (distance_by s (label s))
+    by_word None k = (w, 1, l, ap (λ p. distance_at p s.holder) e ∙ ap (distance_at Waiting) k)
+    by_word (Some h) k = by_place h k (label s h) refl
+
+fitting : (p : Place) (o : Option ℕ) (d : ℕ) → distance_at p o ≡ Some d → Fitting 2 p d
+fitting Out o d e = absurd (none_some e)
+fitting Waiting None d e = let k : 1 ≡ d = cc in (inl refl, omega arith, omega arith)
+fitting Waiting (Some h) d e = absurd (none_some e)
+fitting Inside o d e = absurd (none_some e)
+fitting Leaving o d e = let k : 2 ≡ d = cc in (inr refl, omega arith, omega arith)
+
+pub kind : Kind label (λ p. p) distance_by mark 2 Facts
+kind = record {
+  some = some;
+  fitting = λ s v d e. fitting (label s v) s.holder d e;
+  sole = λ s f v w a b. let z : Some v ≡ Some w = sym (holder s f v (ap holding a)) ∙ holder s f w (ap holding b) in cc;
+  held = λ s f w lt at. sym (f.1 w) ∙ ap holding at;
+  free = λ s f w lt at. sym (f.1 w) ∙ ap holding at;
+}
 
 -- ## The calls
 
@@ -104,11 +167,15 @@ same_lock s t e = λ i. record {
   words = e i;
   sixteen = is_prop→PathP (λ j. Sixteen (e j)) (λ j. ℕ_set _ _) s.sixteen t.sixteen i;
   named = is_prop→PathP (λ j. Named (e j)) (λ j. Π_prop (λ w. Bool-set _ _)) s.named t.named i;
+  sound = is_prop→PathP (λ j. Sound 2 (listed (label (e j))) (due_pair (e j))) (λ j. sound_prop _ _ _) s.sound t.sound i;
 }
 
--- what a struct over the words owes after a call
-pub kept : (s : Tas) (w : ℕ) (q : Request) (x : Words) (r : Result Answer Refusal) (o : Outcome Words) → (x, r) ≡ o → Good s w q o → Facts x
-kept s w q x r o e g = subst (λ p. Facts p.0) (sym e) (g.0 (s.sixteen, s.named))
+-- what a lock of such words owes
+owed : (x : Words) → Facts x → record { sixteen : Sixteen x; named : Named x; sound : Sound 2 (listed (label x)) (due_pair x) }
+owed x f = record { sixteen = f.0; named = f.1; sound = labelled.sound kind x ∣ f ∣₁ }
+
+pub kept : (s : Tas) (w : ℕ) (q : Request) (x : Words) (r : Result Answer Refusal) (o : Outcome Words) → (x, r) ≡ o → Good s w q o → record { sixteen : Sixteen x; named : Named x; sound : Sound 2 (listed (label x)) (due_pair x) }
+kept s w q x r o e g = owed x (subst (λ p. Facts p.0) (sym e) (g.0 (s.sixteen, s.named)))
 
 pub told : (s t : Tas) (w : ℕ) (q : Request) (r : Result Answer Refusal) (o : Outcome Words) → (t.words, r) ≡ o → Good s w q o → Obeys (λ z. listed (label z.words)) (λ z. due_pair z.words) q w r s t
 told s t w q r o e g = labelled.lifted kind (λ (z : Tas). z.words) same_lock q w s t r o e g.1
@@ -116,3 +183,9 @@ told s t w q r o e g = labelled.lifted kind (λ (z : Tas). z.words) same_lock q 
 pub new_out : (s : Tas) → s.words ≡ new_words → listed (label s.words) ≡ replicate 16 Out
 unfolding listed
 new_out s e = ap (λ x. listed (label x)) e
+
+new_facts : Facts new_words
+new_facts = (refl, λ w. ap holding (all_same 16 Out w))
+
+pub new_kept : (x : Words) → x ≡ new_words → record { sixteen : Sixteen x; named : Named x; sound : Sound 2 (listed (label x)) (due_pair x) }
+new_kept x e = owed x (subst Facts (sym e) new_facts)

@@ -4,11 +4,11 @@
 mod words;
 
 ghost use Rattle.std.specs.Prelude.{◌≡◌};
-ghost use Rattle.lock.specs.Rules.{place_answer};
+ghost use Rattle.lock.specs.Rules.{Sound, place_answer};
 ghost use Rattle.lock.specs.Distance.{listed};
 ghost use Rattle.tas.specs.Accesses.{Sixteen, Named, new_words, label, locked, unlocked, stepped};
 ghost use Rattle.tas.specs.Distance.{distance, due_pair};
-ghost use Rattle.tas.specs.Laws.{every_state};
+ghost use Rattle.lock.proofs.Single.{sound_prop};
 
 use lock::{Answer, Distances, Lock, Place, Refusal, due_over, index_of, item_or};
 use words::Words;
@@ -19,6 +19,7 @@ pub struct Tas {
     words: Words,
     ghost sixteen: { Sixteen words },
     ghost named: { Named words },
+    ghost sound: { Sound 2 (listed (label words)) (due_pair words) } by { sound_prop _ _ _ },
 }
 
 impl Distances for Tas {
@@ -48,7 +49,7 @@ impl Lock for Tas {
 
     ghost pair = { λ s. due_pair s.words };
 
-    ghost sound = { λ s. every_state s.words (s.sixteen, s.named) };
+    ghost sound = { λ s. s.sound };
 
     fn limit() -> u32 {
         Self::BOUND

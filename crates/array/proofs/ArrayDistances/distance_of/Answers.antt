@@ -4,4 +4,4 @@ use Rattle.array.proofs.Kind.{in_range}
 use Rattle.array.proofs.ArrayDistances.distance_of.Goals as goal
 
 pub turn-requires : goal.turn-requires
-turn-requires c = let s = c.args.self.now in subst BelowSixteen (sym c.item-or-slot.ensures) (in_range s.words s.lined c.args.w)
+turn-requires c = let s = c.args.self.now in subst BelowSixteen (sym c.item_or-slot.ensures) (in_range s.words s.lined c.args.w)

@@ -1,5 +1,5 @@
 use Rattle.mcs.proofs.Rules.{kept, lock_good}
 use Rattle.mcs.proofs.McsLock.lock.Goals as goal
 
-pub invariant-of-self : goal.invariant-of-self
-invariant-of-self c = let s = c.args.self.now in kept s c.args.w _ _ _ _ c.lock.ensures (lock_good s c.args.w)
+pub invariant_of-self : goal.invariant_of-self
+invariant_of-self c = let s = c.args.self.now in kept s c.args.w _ _ _ _ c.lock.ensures (lock_good s c.args.w)

@@ -1,11 +1,8 @@
 use Rattle.std.proofs.Common.{◌∙◌}
 use Rattle.lock.proofs.Pair.{place_listed}
 use Rattle.ticket.specs.Accesses.{place}
-use Rattle.ticket.proofs.Rules.{every_state, told, lock_good, unlock_good, step_good, new_out}
+use Rattle.ticket.proofs.Rules.{told, lock_good, unlock_good, step_good, new_out}
 use Rattle.ticket.proofs.TicketLock.TheImpl.Goals as goal
-
-pub sound-law : goal.sound-law
-sound-law s = every_state s
 
 pub new-tells : goal.new-tells
 new-tells c = new_out c.result c.ensures
