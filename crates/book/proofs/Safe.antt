@@ -13,8 +13,12 @@ use Rattle.book.proofs.Accepted.{enter_inside, enter_accepted}
 
 -- what the ghost fields of a book say of its table
 abbrev pub Safe : Table → Type 0
-Safe tb = (tb.len ≤ 256) × ((tb.weight ≤ tb.len * 1000000)
-    × (((w : ℕ) → slip_weight (slip_at tb w) ≤ tb.len * 1000000) × (((w : ℕ) → slip_grams (slip_at tb w) ≤ 1000000) × Unit {0})))
+Safe tb = record {
+  within : tb.len ≤ 256;
+  light : tb.weight ≤ tb.len * 1000000;
+  noted : (w : ℕ) → slip_weight (slip_at tb w) ≤ tb.len * 1000000;
+  lifted : (w : ℕ) → slip_grams (slip_at tb w) ≤ 1000000;
+}
 
 -- a bound on every slip holds of one that is written, too
 put_below : (f : Option Slip → ℕ) (b : ℕ) (x : Option Slip) → f x ≤ b → (xs : List (Option Slip)) (i : ℕ) → ((w : ℕ) → f (get_or xs w None) ≤ b) → (w : ℕ) → f (get_or (set xs i x) w None) ≤ b
@@ -25,17 +29,24 @@ put_below f b x le (y ∷ xs) (suc i) h zero = h zero
 put_below f b x le (y ∷ xs) (suc i) h (suc w) = put_below f b x le xs i (λ v. h (suc v)) w
 
 pub safe_put : (tb tb' : Table) (w : ℕ) (s : Option Slip) → tb' ≡ with_slip tb w s → slip_weight s ≤ tb.len * 1000000 → slip_grams s ≤ 1000000 → Safe tb → Safe tb'
-safe_put tb tb' w s e a b k = rw e (k.0, (k.1.0, (put_below slip_weight _ s a tb.slips w k.1.1.0, (put_below slip_grams _ s b tb.slips w k.1.1.1.0, tt))))
+safe_put tb tb' w s e a b k = rw e (record {
+  within = k.within;
+  light = k.light;
+  noted = put_below slip_weight _ s a tb.slips w k.noted;
+  lifted = put_below slip_grams _ s b tb.slips w k.lifted;
+})
 
 safe_recorded : (tb : Table) (w : ℕ) → tb.len < 256 → (o : Option Slip) → slip_at tb w ≡ o → Safe tb → Safe (recorded tb w o)
 safe_recorded tb w lt None e k = k
-safe_recorded tb w lt (Some s) e k = (
-  omega arith,
-  (
-    let n = k.1.1.0 w in let m = k.1.1.1.0 w in let a : s.weight ≤ tb.len * 1000000 = subst (λ o. slip_weight o ≤ tb.len * 1000000) e n in let b : s.grams ≤ 1000000 = subst (λ o. slip_grams o ≤ 1000000) e m in omega arith,
-    (put_below slip_weight _ None (omega arith) tb.slips w (λ v. omega (arith, k.1.1.0 v)), (put_below slip_grams _ None (omega arith) tb.slips w k.1.1.1.0, tt)),
-  ),
-)
+safe_recorded tb w lt (Some s) e k =
+    let a : s.weight ≤ tb.len * 1000000 = subst (λ o. slip_weight o ≤ tb.len * 1000000) e (k.noted w) in
+    let b : s.grams ≤ 1000000 = subst (λ o. slip_grams o ≤ 1000000) e (k.lifted w) in
+    record {
+      within = omega arith;
+      light = omega arith;
+      noted = put_below slip_weight _ None (omega arith) tb.slips w (λ v. omega (arith, k.noted v));
+      lifted = put_below slip_grams _ None (omega arith) tb.slips w k.lifted;
+    }
 
 safe_or : (e : Option Refusal) (tb : Table) (o : Outcome Table) → Safe tb → (e ≡ None → Safe o.0) → Safe (refused_or e tb o).0
 safe_or None tb o k f = f refl

@@ -2,4 +2,4 @@ use Rattle.book.proofs.Safe.{safe_entered}
 use Rattle.book.proofs.Book.enter.Goals as goal
 
 pub invariant_of-self : goal.invariant_of-self
-invariant_of-self g c = let b = c.args.self.now in safe_entered b.table c.enter.new.self c.in_ok-i.i c.enter.result c.enter.ensures (b.within, (b.light, (b.noted, (b.lifted, tt))))
+invariant_of-self g c = let b = c.args.self.now in safe_entered b.table c.enter.new.self c.in_ok-i.i c.enter.result c.enter.ensures (record { within = b.within; light = b.light; noted = b.noted; lifted = b.lifted })

@@ -7,4 +7,4 @@ pub invariant_of-self : goal.invariant_of-self
 invariant_of-self g c =
     let b = c.args.self.now in
     safe_put b.table c.look.new.self c.in_ok-i.i (Some (slip_now b.table c.args.chest c.args.grams)) c.look.ensures.after b.light (omega arith)
-    (b.within, (b.light, (b.noted, (b.lifted, tt))))
+    (record { within = b.within; light = b.light; noted = b.noted; lifted = b.lifted })

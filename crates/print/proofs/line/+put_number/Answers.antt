@@ -8,16 +8,16 @@ use Rattle.print.proofs.line.+put_number.Goals as goal
 pub returns-then-n-lt10 : goal.returns-then-n-lt10
 returns-then-n-lt10 g t c = printed_same _ _ ((48 + c.args.n) ∷ []) (decimal c.args.n) c.put.result (sym (decimal_digit c.args.n c.if-n-lt10.true)) c.put.ensures
 
-pub returns-in-err-put-number : goal.returns-in-err-put-number
-returns-in-err-put-number g t c =
-    let p = err_from_is_err_and c.from-residual.result c.from-residual.ensures.1 in
+pub returns-in_err-put_number : goal.returns-in_err-put_number
+returns-in_err-put_number g t c =
+    let p = err_from_is_err_and c.from_residual.result c.from_residual.ensures.1 in
     let n = c.args.n in
-    short (g.S.Sink.page c.args.sink.now) (g.S.Sink.page c.put-number.new.sink) (decimal n) c.from-residual.result _ p.1
-    (omega (arith, c.in-err-put-number.ensures, ap length (decimal_step n c.if-n-lt10.false (omega arith)), length_push (decimal (n / 10)) (48 + n % 10)))
+    short (g.S.Sink.page c.args.sink.now) (g.S.Sink.page c.put_number.new.sink) (decimal n) c.from_residual.result _ p.1
+    (omega (arith, c.in_err-put_number.ensures, ap length (decimal_step n c.if-n-lt10.false (omega arith)), length_push (decimal (n / 10)) (48 + n % 10)))
 
 pub returns : goal.returns
 returns g t c =
     let n = c.args.n in
     let page = g.S.Sink.page in
     printed_same (page c.args.sink.now) (page c.put-2.new.self) (decimal (n / 10) ++ ((48 + n % 10) ∷ [])) (decimal n) c.put-2.result (sym (decimal_step n c.if-n-lt10.false (omega arith)))
-    (then (page c.args.sink.now) (page c.put-number.new.sink) (page c.put-2.new.self) (decimal (n / 10)) ((48 + n % 10) ∷ []) c.put-2.result c.in-ok-put-number.ensures c.put-2.ensures)
+    (then (page c.args.sink.now) (page c.put_number.new.sink) (page c.put-2.new.self) (decimal (n / 10)) ((48 + n % 10) ∷ []) c.put-2.result c.in_ok-put_number.ensures c.put-2.ensures)

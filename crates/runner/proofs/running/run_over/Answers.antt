@@ -5,10 +5,10 @@ use Rattle.runner.proofs.running.run_over.Goals as goal
 
 pub returns : goal.returns
 returns g c =
-    let r = c.in-ok-book.ensures in
+    let r = c.in_ok-book.ensures in
     record {
       value = r.value;
-      cases = ∥∥₁_map r.cases (ended g.L.Lock.places g.L.Lock.pair g.L.Lock.farthest _ _ c.in-ok-book.book _ c.inside-of-inside.ensures (ap length c.records-chests.ensures) c.weight-grams.ensures);
+      cases = ∥∥₁_map r.cases (ended g.L.Lock.places g.L.Lock.pair g.L.Lock.farthest _ _ c.in_ok-book.book _ c.inside_of-inside.ensures (ap length c.records-chests.ensures) c.weight-grams.ensures);
       memory = r.memory;
       same = r.same;
     }

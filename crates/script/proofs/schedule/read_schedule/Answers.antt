@@ -28,18 +28,18 @@ never_refused : (r : Result Kind Fault) (P : Type 0) (k : Kind) → r ≡ Ok k �
 never_refused (Ok j) P k e = tt
 never_refused (Err f) P k e = let z : ◌≡◌ {A = ℕ} 0 1 = cc e in absurd (omega arith)
 
-pub returns-in-err-survey : goal.returns-in-err-survey
-returns-in-err-survey c =
-    let p = err_from_is_err_and c.from-residual.result c.from-residual.ensures.1 in
-    let r = c.from-residual.result in
+pub returns-in_err-survey : goal.returns-in_err-survey
+returns-in_err-survey c =
+    let p = err_from_is_err_and c.from_residual.result c.from_residual.ensures.1 in
+    let r = c.from_residual.result in
     let items = list_items c.args.events.now in
     let text = c.args.text.now in
     let room = list_room c.args.events.now in
-    let is : r ≡ Err c.in-err-survey.field-0.0 = p.1 ∙ ap Err p.2 in
-    let g : Gives room text (told r items) = subst (λ x. Gives room text (told x items)) (sym is) (limits room text c.min-most.result _ c.if-text-gt-MOST-BYTES.false (c.min-most.ensures ∙ ap (λ n. min n 1024) c.room.ensures) c.in-err-survey.ensures) in
+    let is : r ≡ Err c.in_err-survey.field-0.0 = p.1 ∙ ap Err p.2 in
+    let g : Gives room text (told r items) = subst (λ x. Gives room text (told x items)) (sym is) (limits room text c.min-most.result _ c.if-text-gt-MOST_BYTES.false (c.min-most.ensures ∙ ap (λ n. min n 1024) c.room.ensures) c.in_err-survey.ensures) in
     record {
       value = g;
-      form = form room text r items c.if-text-gt-MOST-BYTES.false g;
+      form = form room text r items c.if-text-gt-MOST_BYTES.false g;
       only = λ v h. only room text _ v g h;
       complete = complete room text r items g;
       memory = made_always r refl;
@@ -53,12 +53,12 @@ returns c =
     let items = list_items c.fill.new.events in
     let text = c.args.text.now in
     let room = list_room c.args.events.now in
-    let seen = c.in-ok-survey.ensures in
+    let seen = c.in_ok-survey.ensures in
     let ok = told_ok r items _ _ (once c.min-most.result at_lock 1 (lines (take 32768 text)) _ _ c.fill.ensures.value seen.1) in
-    let g = limits room text c.min-most.result _ c.if-text-gt-MOST-BYTES.false (c.min-most.ensures ∙ ap (λ n. min n 1024) c.room.ensures) c.fill.ensures.value in
+    let g = limits room text c.min-most.result _ c.if-text-gt-MOST_BYTES.false (c.min-most.ensures ∙ ap (λ n. min n 1024) c.room.ensures) c.fill.ensures.value in
     record {
       value = g;
-      form = form room text r items c.if-text-gt-MOST-BYTES.false g;
+      form = form room text r items c.if-text-gt-MOST_BYTES.false g;
       only = λ v h. only room text _ v g h;
       complete = complete room text r items g;
       memory = made_always r c.fill.ensures.memory;

@@ -6,20 +6,20 @@ use Rattle.print.proofs.Appending.{then, short, printed_same}
 use Rattle.script.specs.Written.{call_text, event_text}
 use Rattle.script.proofs.written.put_event.Goals as goal
 
-pub returns-in-err-put-number-line : goal.returns-in-err-put-number-line
-returns-in-err-put-number-line g c =
-    let p = err_from_is_err_and c.from-residual.result c.from-residual.ensures.1 in
+pub returns-in_err-put_number_line : goal.returns-in_err-put_number_line
+returns-in_err-put_number_line g c =
+    let p = err_from_is_err_and c.from_residual.result c.from_residual.ensures.1 in
     let e = c.args.event in
     let same = ap (λ n. length (line_text (codes "worker") (decimal n))) c.from.ensures in
-    short _ _ (event_text e) c.from-residual.result _ p.1 (omega (arith, c.in-err-put-number-line.ensures, same, length-append (line_text (codes "worker") (decimal e.worker)) (call_text e.call)))
+    short _ _ (event_text e) c.from_residual.result _ p.1 (omega (arith, c.in_err-put_number_line.ensures, same, length-append (line_text (codes "worker") (decimal e.worker)) (call_text e.call)))
 
 pub returns : goal.returns
 returns g c =
     let page = g.S.Sink.page in
     let a = page c.args.sink.now in
-    let b = page c.put-number-line.new.sink in
-    let d = page c.put-call.new.sink in
+    let b = page c.put_number_line.new.sink in
+    let d = page c.put_call.new.sink in
     let e = c.args.event in
-    let r = c.put-call.result in
+    let r = c.put_call.result in
     printed_same a d _ (event_text e) r (ap (λ n. line_text (codes "worker") (decimal n) ++ call_text e.call) c.from.ensures)
-    (then a b d (line_text (codes "worker") (decimal c.from.result)) (call_text e.call) r c.in-ok-put-number-line.ensures c.put-call.ensures)
+    (then a b d (line_text (codes "worker") (decimal c.from.result)) (call_text e.call) r c.in_ok-put_number_line.ensures c.put_call.ensures)

@@ -14,21 +14,21 @@ use Rattle.script.proofs.written.put_events.Goals as goal
 abbrev unread : Event
 unread = record { worker = 0; call = Lock }
 
-pub returns-in-err-put-event : goal.returns-in-err-put-event
-returns-in-err-put-event g c =
-    let p = err_from_is_err_and c.from-residual.result c.from-residual.ensures.1 in
+pub returns-in_err-put_event : goal.returns-in_err-put_event
+returns-in_err-put_event g c =
+    let p = err_from_is_err_and c.from_residual.result c.from_residual.ensures.1 in
     let page = g.S.Sink.page in
     let xs = c.args.events.now in
-    short (page c.args.sink.now) _ (flat_map event_text xs) c.from-residual.result _ p.1
-    (joined_short (page c.args.sink.now) (page c.loop-event.sink) event_text xs c.loop-event.event-index unread c.loop-event-test.true c.loop-event.invariant c.in-err-put-event.ensures)
+    short (page c.args.sink.now) _ (flat_map event_text xs) c.from_residual.result _ p.1
+    (joined_short (page c.args.sink.now) (page c.loop-event.sink) event_text xs c.loop-event.event-index unread c.loop-event-test.true c.loop-event.invariant c.in_err-put_event.ensures)
 
 pub loop-event-preserved : goal.loop-event-preserved
 loop-event-preserved g c =
     let page = g.S.Sink.page in
     let xs = c.args.events.now in
     let i = c.loop-event.event-index in
-    subst (λ l. Prints (page c.args.sink.now) l (page c.put-event.new.sink)) (joined_next event_text xs i unread c.loop-event-test.true)
-    (prints_more (page c.args.sink.now) (page c.loop-event.sink) (page c.put-event.new.sink) (flat_map event_text (take i xs)) (event_text (get_or xs i unread)) c.loop-event.invariant c.in-ok-put-event.ensures)
+    subst (λ l. Prints (page c.args.sink.now) l (page c.put_event.new.sink)) (joined_next event_text xs i unread c.loop-event-test.true)
+    (prints_more (page c.args.sink.now) (page c.loop-event.sink) (page c.put_event.new.sink) (flat_map event_text (take i xs)) (event_text (get_or xs i unread)) c.loop-event.invariant c.in_ok-put_event.ensures)
 
 pub returns : goal.returns
 returns g c =

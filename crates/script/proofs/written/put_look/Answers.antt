@@ -6,27 +6,27 @@ use Rattle.print.proofs.Appending.{then, short, printed_same}
 use Rattle.script.specs.Written.{look_text}
 use Rattle.script.proofs.written.put_look.Goals as goal
 
-pub returns-in-err-put-number-line : goal.returns-in-err-put-number-line
-returns-in-err-put-number-line g c =
-    let r = c.from-residual-in-err-put-number-line.result in
-    let p = err_from_is_err_and r c.from-residual-in-err-put-number-line.ensures.1 in
+pub returns-in_err-put_number_line : goal.returns-in_err-put_number_line
+returns-in_err-put_number_line g c =
+    let r = c.from_residual-in_err-put_number_line.result in
+    let p = err_from_is_err_and r c.from_residual-in_err-put_number_line.ensures.1 in
     let call = line_text (codes "call") (codes "look") in
     let chest = line_text (codes "chest") (decimal c.args.chest) in
     let grams = line_text (codes "grams") (decimal c.args.grams) in
     let same = ap (λ n. length (line_text (codes "chest") (decimal n))) c.from.ensures in
-    short _ _ (look_text c.args.chest c.args.grams) r _ p.1 (omega (arith, c.in-ok-put-line.ensures.spent, c.in-err-put-number-line.ensures, same, length-append call (chest ++ grams), length-append chest grams))
+    short _ _ (look_text c.args.chest c.args.grams) r _ p.1 (omega (arith, c.in_ok-put_line.ensures.spent, c.in_err-put_number_line.ensures, same, length-append call (chest ++ grams), length-append chest grams))
 
 pub returns : goal.returns
 returns g c =
     let page = g.S.Sink.page in
     let call = line_text (codes "call") (codes "look") in
     let a = page c.args.sink.now in
-    let b = page c.put-line.new.sink in
-    let d = page c.put-number-line.new.sink in
-    let e = page c.put-number-line-2.new.sink in
-    let r = c.put-number-line-2.result in
+    let b = page c.put_line.new.sink in
+    let d = page c.put_number_line.new.sink in
+    let e = page c.put_number_line-2.new.sink in
+    let r = c.put_number_line-2.result in
     let chest = c.from.ensures in
     let grams = c.from-2.ensures in
     printed_same a e _ (look_text c.args.chest c.args.grams) r (λ i. call ++ (line_text (codes "chest") (decimal (chest i)) ++ line_text (codes "grams") (decimal (grams i))))
-    (then a b e call (line_text (codes "chest") (decimal c.from.result) ++ line_text (codes "grams") (decimal c.from-2.result)) r c.in-ok-put-line.ensures
-    (then b d e (line_text (codes "chest") (decimal c.from.result)) (line_text (codes "grams") (decimal c.from-2.result)) r c.in-ok-put-number-line.ensures c.put-number-line-2.ensures))
+    (then a b e call (line_text (codes "chest") (decimal c.from.result) ++ line_text (codes "grams") (decimal c.from-2.result)) r c.in_ok-put_line.ensures
+    (then b d e (line_text (codes "chest") (decimal c.from.result)) (line_text (codes "grams") (decimal c.from-2.result)) r c.in_ok-put_number_line.ensures c.put_number_line-2.ensures))

@@ -4,7 +4,7 @@ use Rattle.std.proofs.lemmas.Bool.{cond-true, cond-false, eq-eqb, ne_eqb}
 use Rattle.lock.specs.Numbers.{outcome_number}
 use Rattle.transcript.specs.Transcribed.{Outcome, misuses}
 use Rattle.transcript.proofs.answers.misuse_count.Goals as goal
-use Rattle.transcript.proofs.answers.misuse_count.Goals.{then-outcome-number-number, else-outcome-number-number}
+use Rattle.transcript.proofs.answers.misuse_count.Goals.{then-outcome_number-number, else-outcome_number-number}
 
 next : (xs : List Outcome) (i : ℕ) (d : Outcome) → i < length xs → misuses (drop i xs) ≡ cond (eqb (outcome_number (get_or xs i d)) 4) 1 0 + misuses (drop (i + 1) xs)
 next xs i d h = ap misuses (drop_more xs i d h)
@@ -20,9 +20,9 @@ loop-answer-preserved c =
     let xs = c.args.answers.now in
     let i = c.loop-answer.answer-index in
     let inv = c.loop-answer.invariant in
-    elim c.if-outcome-number-number.branch [
-      | then-outcome-number-number w ↦ (omega (arith, inv.0, w.count-is, hit xs i c.outcome_number.result _ c.loop-answer-test.true c.outcome_number.ensures (w.if-outcome-number-number.true ∙ c.number.ensures)), omega (arith, inv.1, w.count-is))
-      | else-outcome-number-number w ↦ (omega (arith, inv.0, w.count-is, miss xs i c.outcome_number.result _ c.loop-answer-test.true c.outcome_number.ensures (λ four. w.if-outcome-number-number.false (four ∙ sym c.number.ensures))), omega (arith, inv.1, w.count-is))
+    elim c.if-outcome_number-number.branch [
+      | then-outcome_number-number w ↦ (omega (arith, inv.0, w.count-is, hit xs i c.outcome_number.result _ c.loop-answer-test.true c.outcome_number.ensures (w.if-outcome_number-number.true ∙ c.number.ensures)), omega (arith, inv.1, w.count-is))
+      | else-outcome_number-number w ↦ (omega (arith, inv.0, w.count-is, miss xs i c.outcome_number.result _ c.loop-answer-test.true c.outcome_number.ensures (λ four. w.if-outcome_number-number.false (four ∙ sym c.number.ensures))), omega (arith, inv.1, w.count-is))
     ]
 
 pub returns : goal.returns

@@ -10,14 +10,14 @@ use Rattle.print.proofs.Joining.{joined_next, joined_short}
 use Rattle.transcript.specs.Transcribed.{answer_text}
 use Rattle.transcript.proofs.answers.put_answers.Goals as goal
 
-pub returns-in-err-put-number-line : goal.returns-in-err-put-number-line
-returns-in-err-put-number-line g c =
-    let p = err_from_is_err_and c.from-residual.result c.from-residual.ensures.1 in
+pub returns-in_err-put_number_line : goal.returns-in_err-put_number_line
+returns-in_err-put_number_line g c =
+    let p = err_from_is_err_and c.from_residual.result c.from_residual.ensures.1 in
     let page = g.S.Sink.page in
     let xs = c.args.answers.now in
     let same = ap (λ n. length (line_text (codes "answer") (decimal n))) (c.from.ensures ∙ c.outcome_number.ensures) in
-    short (page c.args.sink.now) _ (flat_map answer_text xs) c.from-residual.result _ p.1
-    (joined_short (page c.args.sink.now) (page c.loop-answer.sink) answer_text xs c.loop-answer.answer-index (Ok Done) c.loop-answer-test.true c.loop-answer.invariant (omega (arith, c.in-err-put-number-line.ensures, same)))
+    short (page c.args.sink.now) _ (flat_map answer_text xs) c.from_residual.result _ p.1
+    (joined_short (page c.args.sink.now) (page c.loop-answer.sink) answer_text xs c.loop-answer.answer-index (Ok Done) c.loop-answer-test.true c.loop-answer.invariant (omega (arith, c.in_err-put_number_line.ensures, same)))
 
 pub loop-answer-preserved : goal.loop-answer-preserved
 loop-answer-preserved g c =
@@ -27,8 +27,8 @@ loop-answer-preserved g c =
     let done = flat_map answer_text (take i xs) in
     let here = line_text (codes "answer") (decimal c.from.result) in
     let next = ap (λ n. done ++ line_text (codes "answer") (decimal n)) (c.from.ensures ∙ c.outcome_number.ensures) ∙ joined_next answer_text xs i _ c.loop-answer-test.true in
-    subst (λ l. Prints (page c.args.sink.now) l (page c.put-number-line.new.sink)) next
-    (prints_more (page c.args.sink.now) (page c.loop-answer.sink) (page c.put-number-line.new.sink) done here c.loop-answer.invariant c.in-ok-put-number-line.ensures)
+    subst (λ l. Prints (page c.args.sink.now) l (page c.put_number_line.new.sink)) next
+    (prints_more (page c.args.sink.now) (page c.loop-answer.sink) (page c.put_number_line.new.sink) done here c.loop-answer.invariant c.in_ok-put_number_line.ensures)
 
 pub returns : goal.returns
 returns g c =

@@ -3,5 +3,5 @@ use Rattle.std.proofs.lemmas.Bool.{ltb-false}
 use Rattle.mcs.proofs.Nodes.{nothing_set}
 use Rattle.mcs.proofs.words.Words.set_next.Goals as goal
 
-pub returns-in-default : goal.returns-in-default
-returns-in-default c = nothing_set c.args.self.now c.args.w _ (omega (arith, ltb-false c.from.result 16 (sym c.in-default.ensures.test), c.from.ensures))
+pub returns-in_default : goal.returns-in_default
+returns-in_default c = nothing_set c.args.self.now c.args.w _ (omega (arith, ltb-false c.from.result 16 (sym c.in_default.ensures.test), c.from.ensures))

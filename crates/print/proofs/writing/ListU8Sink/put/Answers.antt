@@ -16,15 +16,15 @@ loop-b-preserved c =
     let e = c.push.new.self in
     let bytes = c.args.bytes.now in
     let i = c.loop-b.b-index in
-    let pushed = c.in-ok-push.ensures in
+    let pushed = c.in_ok-push.ensures in
     let fits = push_fits b _ pushed.value in
     subst (λ l. Appended a l e) (sym (take_more bytes i 0 c.loop-b-test.true))
     (appended_more a b e (take i bytes) (get_or bytes i 0 ∷ []) c.loop-b.invariant (appended_push b e (get_or bytes i 0) (pushed.len fits) (pushed.items fits) (pushed.memory fits) pushed.same))
 
-pub returns-in-err-push : goal.returns-in-err-push
-returns-in-err-push c =
-    let p = err_from_is_err_and c.from-residual.result c.from-residual.ensures.1 in
-    let full = push_full c.loop-b.self _ c.in-err-push.ensures.value in
+pub returns-in_err-push : goal.returns-in_err-push
+returns-in_err-push c =
+    let p = err_from_is_err_and c.from_residual.result c.from_residual.ensures.1 in
+    let full = push_full c.loop-b.self _ c.in_err-push.ensures.value in
     rw p.1 (omega (arith, full, c.loop-b.invariant.longer, c.loop-b.invariant.room, c.loop-b-test.true, length-take-le c.loop-b.b-index c.args.bytes.now c.loop-b.auto.b-index-end))
 
 pub returns : goal.returns
