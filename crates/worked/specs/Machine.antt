@@ -34,7 +34,7 @@ abbrev pub kinds : List Words
 kinds = tas tas_calls.new_words ∷ ticket ticket_calls.new_words ∷ array array_calls.new_words ∷ mcs mcs_calls.new_words ∷ clh clh_calls.new_words ∷ []
 
 abbrev pub stands : Words → ℕ → Place
-stands (tas s) w = tas_calls.place s w
+stands (tas s) w = tas_calls.label s w
 stands (ticket s) w = ticket_calls.place s w
 stands (array s) w = array_calls.place s w
 stands (mcs s) w = mcs_calls.place s w

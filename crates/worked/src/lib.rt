@@ -5,7 +5,12 @@ ghost use Rattle.std.specs.Prelude.{◌≡◌, [], ◌∷◌};
 ghost use Rattle.worked.specs.Bounds.{ruled};
 ghost use Rattle.worked.specs.Table.{Worked};
 
+use array::Array;
+use clh::Clh;
 use lock::Lock;
+use mcs::Mcs;
+use tas::Tas;
+use ticket::Ticket;
 
 // Says only that every row of the table comes out as it says, by the definitions that the contracts of the calls name.
 pub fn worked_cases()
@@ -18,10 +23,10 @@ pub fn bounds() -> [u32; 5]
     ensures ruled { result ≡ ruled }
 {
     [
-        <tas::Tas as Lock>::BOUND,
-        <ticket::Ticket as Lock>::BOUND,
-        <array::Array as Lock>::BOUND,
-        <mcs::Mcs as Lock>::BOUND,
-        <clh::Clh as Lock>::BOUND,
+        Tas::BOUND,
+        Ticket::BOUND,
+        Array::BOUND,
+        Mcs::BOUND,
+        Clh::BOUND,
     ]
 }
