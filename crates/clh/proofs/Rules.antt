@@ -22,7 +22,6 @@ use Rattle.lock.proofs.Labelled.{Kind, Free, Waits, read_set, upd_same, upd_othe
 use Rattle.queue.specs.Line.{empty}
 use Rattle.queue.proofs.Ordering.{same_rank, nobody}
 use Rattle.queue.proofs.Turnwise as turnwise
-use Rattle.rows.specs.With.{with}
 use Rattle.rows.proofs.Lending.{read_with}
 use Rattle.clh.specs.declared.words.Label.{Label}
 use Rattle.clh.specs.declared.words.Label.TheVariants.{Out, W0, W1, W2, W3, Inside, X0, X1}

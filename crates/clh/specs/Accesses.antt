@@ -1,5 +1,5 @@
 -- Every word of the clh lock after every call.
-use Rattle.std.specs.Prelude.{ℕ, Bool, true, false, cond, List, map, replicate, is_some, Some, None, Ok, Err, Option, slice_index, slice_index_or, slice_set, refl}
+use Rattle.std.specs.Prelude.{ℕ, Bool, true, false, cond, replicate, is_some, Some, None, Ok, Err, Option, slice_index, slice_index_or, slice_set, refl}
 use Rattle.std.specs.List.{range_with_len}
 use Rattle.std.specs.Option.{unwrap_or}
 use Rattle.lock.specs.declared.place.Place.{Place}

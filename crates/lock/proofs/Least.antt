@@ -1,5 +1,5 @@
 -- The least distance, and whether anyone is at a place.
-use Rattle.std.proofs.Common.{◌≡◌, ℕ, zero, suc, ◌+◌, ◌<◌, ◌≤◌, Bool, true, false, cond, ◌||◌, leb, ◌⊎◌, Some, None, Option, sym, refl, ap, ◌∙◌, ⊎_elim, add-one, arith}
+use Rattle.std.proofs.Common.{◌≡◌, ℕ, zero, suc, ◌+◌, ◌<◌, ◌≤◌, Bool, true, false, cond, ◌||◌, leb, Some, None, Option, sym, refl, ap, ◌∙◌, ⊎_elim, add-one, arith}
 use Rattle.std.proofs.lemmas.Bool.{leb-true, leb-false, cases_eq, false≢true, or_cases, or_parts}
 use Rattle.lock.specs.declared.place.Place.{Place}
 use Rattle.lock.specs.Distance.{nearer, nearest, anyone, is_inside, is_waiting}

@@ -1,5 +1,5 @@
 -- The rule for a state holds in one way at most, so a lock's type can carry it.
-use Rattle.std.proofs.Common.{◌≡◌, ℕ, Option, None, Some, List}
+use Rattle.std.proofs.Common.{ℕ, Option, None, Some, List}
 use mathlib.Core.Logic.{∥∥₁_prop}
 use mathlib.Core.HLevel.{Π_prop, ⊥_prop}
 use native.Mathlib.Nat.{ℕ_set}

@@ -1,6 +1,6 @@
 -- Who is due, by distances: how many accesses at most are left until the worker, or another that it
 -- brings on, is inside. Most workers have no distance.
-use Rattle.std.specs.Prelude.{◌≡◌, ℕ, zero, suc, ◌<◌, ◌≤◌, Bool, true, false, cond, ◌||◌, List, map, Some, None, Option, nat_le}
+use Rattle.std.specs.Prelude.{ℕ, zero, suc, Bool, true, false, cond, ◌||◌, List, map, Some, None, Option, nat_le}
 use Rattle.std.specs.List.{range_with_len}
 use Rattle.lock.specs.declared.place.Place.{Place}
 use Rattle.lock.specs.declared.place.Place.TheVariants.{Out, Waiting, Inside, Leaving}

@@ -13,7 +13,7 @@ use Rattle.mcs.specs.declared.words.Label.TheVariants.{Out, W0, W1, W2, W3, W4, 
 use Rattle.mcs.specs.declared.words.Node.{Node}
 use Rattle.mcs.specs.Accesses.{place_of}
 use Rattle.mcs.specs.Distance.{unlinked, distance_at}
-use Rattle.mcs.specs.Facts.{queued, ahead, named, shut, link, behind, Chained}
+use Rattle.mcs.specs.Facts.{queued, ahead, named, shut, link, Chained}
 use Rattle.mcs.proofs.Keeps.{with_next, with_locked, final_empty, behind_at, standing, preceded, unnamed, alone, heir, keep_last}
 
 -- ## What a distance says

@@ -9,7 +9,7 @@ use Rattle.lock.specs.declared.answer.Answer.{Answer}
 use Rattle.lock.specs.declared.answer.Answer.TheVariants.{Done, Entered, Left, Found}
 use Rattle.lock.specs.declared.refusal.Refusal.{Refusal}
 use Rattle.lock.specs.declared.refusal.Refusal.TheVariants.{NoWorker}
-use Rattle.lock.specs.Rules.{Leads, Nearer, Fits, Nobody, Somebody, place_at, locking, unlocking, stepping}
+use Rattle.lock.specs.Rules.{Leads, Nearer, Fits, Nobody, place_at, locking, unlocking, stepping}
 use Rattle.lock.proofs.Small.{all_same}
 use Rattle.newcomer.specs.Cheats.{Calls, Keeps, LetsNobodyIn, LetsEverybodyIn, DeniesEachUnlock, Fruitless, stop, on, MakesUpDistances, EntersAtOnce, NeverRefuses}
 

@@ -1,5 +1,5 @@
 -- A table with one value changed.
-use Rattle.std.specs.Prelude.{◌≡◌, ℕ, length, slice_set}
+use Rattle.std.specs.Prelude.{ℕ, slice_set}
 use Rattle.std.proofs.Common.{◌∙◌, length-set}
 use Rattle.rows.specs.declared.table.Rows.{Rows}
 
