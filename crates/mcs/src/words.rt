@@ -1,6 +1,6 @@
 ghost use Rattle.std.specs.Prelude.{◌≡◌};
 ghost use Rattle.mcs.specs.Distance.{unlinked as unlinked_of};
-ghost use Rattle.mcs.specs.Accesses.{new_words, node, set_next, set_locked, place_of, answer_of, swapped as swapped_of, linked as LinkedOf, access as AccessOf, locked, unlocked, stepped};
+ghost use Rattle.mcs.specs.Accesses.{new_words, node, set_next, set_locked, place_of, answer_of, swapped as swapped_of, linked as linked_of, access as access_of, locked, unlocked, stepped};
 
 use lock::{Answer, Place, Refusal, index_of, item_or};
 use rows::Rows;
@@ -85,7 +85,7 @@ fn swapped(pred: Option<u8>) -> Label
 
 // The label after reading the own `next`, where `other` is that for none.
 fn linked(next: Option<u8>, other: Label) -> Label
-    ensures { result ≡ LinkedOf other next }
+    ensures { result ≡ linked_of other next }
 {
     match next {
         None => other,
@@ -164,7 +164,7 @@ impl Words {
 
     // The access at a label: what it writes, and the label after it.
     fn access(&mut self, w: u8, label: Label) -> Label
-        ensures { (self.new, result) ≡ AccessOf label self.old w }
+        ensures { (self.new, result) ≡ access_of label self.old w }
     {
         match label {
             Label::W0 => {

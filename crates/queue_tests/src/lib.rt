@@ -11,8 +11,10 @@ pub fn counts_wrap()
 
 #[cfg(test)]
 mod tests {
+    use array::Array;
     use lock::{Lock, outcome_number};
     use std::process::Abort;
+    use ticket::Ticket;
 
     fn steps<L: Lock>(rt: &impl Abort, lock: &mut L, w: u8, answers: &[u8]) {
         for answer in answers {
@@ -70,7 +72,7 @@ mod tests {
 
     #[test]
     fn ticket_alone(rt: HostRuntime) {
-        let mut lock = <ticket::Ticket as Lock>::new();
+        let mut lock = Ticket::new();
         assert_eq!(rt; outcome_number(lock.lock(5)), 0);
         assert_eq!(rt; lock.due(), Some((5, 3)));
         steps(&rt, &mut lock, 5, &[0, 0, 20]);
@@ -83,7 +85,7 @@ mod tests {
 
     #[test]
     fn array_alone(rt: HostRuntime) {
-        let mut lock = <array::Array as Lock>::new();
+        let mut lock = Array::new();
         assert_eq!(rt; outcome_number(lock.lock(5)), 0);
         assert_eq!(rt; lock.due(), Some((5, 3)));
         steps(&rt, &mut lock, 5, &[0, 0, 20, 5]);
@@ -94,19 +96,19 @@ mod tests {
 
     #[test]
     fn many_turns(rt: HostRuntime) {
-        lone(&rt, &mut <ticket::Ticket as Lock>::new(), &[0, 21]);
-        lone(&rt, &mut <array::Array as Lock>::new(), &[21]);
+        lone(&rt, &mut Ticket::new(), &[0, 21]);
+        lone(&rt, &mut Array::new(), &[21]);
     }
 
     #[test]
     fn first_come(rt: HostRuntime) {
-        in_order(&rt, &mut <ticket::Ticket as Lock>::new(), &[0, 21]);
-        in_order(&rt, &mut <array::Array as Lock>::new(), &[21]);
+        in_order(&rt, &mut Ticket::new(), &[0, 21]);
+        in_order(&rt, &mut Array::new(), &[21]);
     }
 
     #[test]
     fn turned_down(rt: HostRuntime) {
-        refusals(&rt, &mut <ticket::Ticket as Lock>::new());
-        refusals(&rt, &mut <array::Array as Lock>::new());
+        refusals(&rt, &mut Ticket::new());
+        refusals(&rt, &mut Array::new());
     }
 }

@@ -1,5 +1,5 @@
 -- Decimal numbers without leading zeros.
-use Rattle.std.specs.Prelude.{◌≡◌, ℕ, ◌<◌, ◌≤◌, List, length, Some, None, decimal, Option, ◌≢◌, slice_index, slice_index_or}
+use Rattle.std.specs.Prelude.{◌≡◌, ℕ, ◌<◌, ◌≤◌, List, length, Some, None, decimal, Option, ◌≢◌, slice_index}
 use Rattle.std.specs.Int.{IsInRange}
 
 -- the number up to a limit that the bytes write, if there is one
@@ -11,4 +11,4 @@ ReadsUpTo most bytes None = (n : ℕ) → n ≤ most → bytes ≢ decimal n
 pub record Plain (bytes : List ℕ) : Type 0 where
   pub some : 0 < length bytes
   pub digit : IsInRange 48 57 (slice_index bytes 0)
-  pub zero : slice_index_or bytes 0 0 ≡ 48 → length bytes ≡ 1
+  pub zero : slice_index bytes 0 ≡ 48 → length bytes ≡ 1
