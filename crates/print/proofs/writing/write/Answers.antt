@@ -1,4 +1,4 @@
-use Rattle.std.proofs.Common.{◌≤◌, length, arith, rules}
+use Rattle.std.proofs.Common.{◌≤◌, length, ap, arith, rules}
 use Rattle.print.proofs.Overwriting.{wrote_memory, wrote_answer}
 use Rattle.print.proofs.writing.write.Goals as goal
 
@@ -10,7 +10,7 @@ returns g c =
     let b = c.print-2.new.sink in
     let new = c.new-list.ensures in
     let added = c.in_ok-print-2.ensures.kept in
-    let fits : length text ≤ length memory = omega (arith, c.in_ok-print.ensures.spent) in
+    let fits : length text ≤ length memory = omega (arith, c.in_ok-print-2.ensures.spent, new.len, ap length new.memory) in
     let bytes = wrote_memory text memory a b new.items new.len new.memory added fits in
     let lent = added.same in
     let first = new.same in

@@ -18,7 +18,7 @@ pub returns-then-n-max : goal.returns-then-n-max
 returns-then-n-max c =
     let same = c.in-Ok.ensures.cases.0 in
     let plain = subst Plain (sym same) c.if-not-is_plain.ensures in
-    (c.if-n-max.true, sym same ∙ writes_back c.in-Ok.text.now c.parse.result c.in-Ok-parse.n plain c.parse.ensures.value.0 c.in-Ok-parse.is)
+    (omega (arith, c.if-n-max.true), sym same ∙ writes_back c.in-Ok.text.now c.parse.result c.in-Ok-parse.n plain c.parse.ensures.value.0 c.in-Ok-parse.is)
 
 pub returns-else-n-max : goal.returns-else-n-max
 returns-else-n-max c n le e =
