@@ -1,5 +1,5 @@
 pub mod Small
-pub mod Single
 pub mod Least
 pub mod Pair
 pub mod Labelled
+pub mod Spinning

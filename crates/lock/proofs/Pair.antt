@@ -1,5 +1,5 @@
 -- A lock whose due pair goes by distances keeps the rules of the pair.
-use Rattle.std.proofs.Common.{◌≡◌, ℕ, ◌+◌, ◌<◌, ◌≤◌, Bool, true, false, cond, ltb, ◌⊎◌, List, length, Some, None, Ok, Err, Option, Result, sym, refl, ap, ◌∙◌, subst, inl, inr, ⊎_elim, arith}
+use Rattle.std.proofs.Common.{◌≡◌, ℕ, ◌+◌, ◌<◌, ◌≤◌, Bool, true, false, cond, ltb, ◌⊎◌, List, length, replicate, Some, None, Ok, Err, Option, Result, sym, refl, ap, ◌∙◌, subst, inl, inr, ⊎_elim, arith}
 use mathlib.Core.Logic.{∥∥₁_elim, ∥∥₁_map}
 use mathlib.Core.HLevel.{⊥_prop}
 use native.Mathlib.Bridge.{le_prop}
@@ -29,6 +29,11 @@ listed_length f = length-map-range_with_len f 0 16
 pub listed_at : (f : ℕ → Place) (v : ℕ) → v < 16 → place_at (listed f) v ≡ f v
 unfolding listed
 listed_at f v l = get_or-map-range_with_len f 0 16 v v Out l (omega arith)
+
+-- where everybody is out
+pub listed_out : (f : ℕ → Place) → ((w : ℕ) → f w ≡ Out) → listed f ≡ replicate 16 Out
+unfolding listed
+listed_out f out = λ i. listed (λ w. out w i)
 
 past : (f : ℕ → Place) (v : ℕ) → 16 ≤ v → place_at (listed f) v ≡ Out
 past f v l = get_or_past (listed f) v Out (omega (arith, listed_length f))

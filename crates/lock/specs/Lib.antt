@@ -3,3 +3,5 @@ pub mod Rules
 pub mod Calls
 pub mod Distance
 pub mod Names
+pub mod Algorithms
+pub mod Single

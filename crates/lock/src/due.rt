@@ -3,20 +3,7 @@ ghost use Rattle.std.specs.Prelude.{◌≡◌, ℕ, Option};
 ghost use Rattle.lock.specs.declared.place.Place.{Place};
 ghost use Rattle.lock.specs.Distance.{nearer as nearer_of, due_of};
 
-use crate::Place;
-
-// What a lock tells of each worker for the due pair to be worked out. A worker above 15 is out and has no distance.
-pub trait Distances {
-    ghost stands: { Self → ℕ → Place };
-
-    ghost distances: { Self → ℕ → Option ℕ };
-
-    fn place_of(&self, w: u8) -> Place
-        ensures { result ≡ stands self.now w };
-
-    fn distance_of(&self, w: u8) -> Option<u32>
-        ensures { result ≡ distances self.now w };
-}
+use crate::{Algorithm, Place};
 
 // The nearer of the best so far and the worker `v`, the best where they are as near.
 fn nearer(best: Option<(u8, u32)>, v: u8, distance: Option<u32>) -> Option<(u8, u32)>
@@ -31,8 +18,8 @@ fn nearer(best: Option<(u8, u32)>, v: u8, distance: Option<u32>) -> Option<(u8, 
 }
 
 // Who is due and how far off: nobody where somebody is inside or nobody waits.
-pub fn due_over<D: Distances>(words: &D) -> Option<(u8, u32)>
-    ensures { result ≡ due_of (D.Distances.stands words.now) (D.Distances.distances words.now) }
+pub(crate) fn due_over<A: Algorithm>(words: &A) -> Option<(u8, u32)>
+    ensures { result ≡ due_of (A.place_of words.now) (A.distance_of words.now) }
 {
     let mut best = None;
     let mut inside = false;

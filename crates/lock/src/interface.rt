@@ -11,17 +11,13 @@ pub trait Lock: Sized {
     // The largest distance that `due` answers.
     const BOUND: u32;
 
-    // The same number, as the rules name it; `limit` ties the two.
-    ghost farthest: { ℕ };
+    ghost BOUND: { ℕ };
 
     // Where each of the sixteen workers is.
     ghost places: { Self → List Place };
 
     // Who is due and how far off, if anybody is.
     ghost pair: { Self → Option (ℕ × ℕ) };
-
-    fn limit() -> u32
-        ensures { result ≡ farthest };
 
     fn new() -> Self
         ensures { places result ≡ replicate 16 Out };
@@ -41,7 +37,7 @@ pub trait Lock: Sized {
     fn due(&self) -> Option<(u8, u32)>
         ensures { result ≡ pair self.now };
 
-    ghost sound: { (s : Self) → Sound farthest (places s) (pair s) };
+    ghost sound: { (s : Self) → Sound BOUND (places s) (pair s) };
 }
 
 // The worker's index among the sixteen.

@@ -18,6 +18,9 @@ abbrev pub names : Option ℕ → ℕ → Bool
 names None w = false
 names (Some h) w = h == w
 
+abbrev pub mark : Words → ℕ → Bool
+mark s w = names s.holder w
+
 -- the word becomes h, and w goes to p
 abbrev pub put : Words → Option ℕ → ℕ → Place → Words
 put s h w p = record { holder = h; at = slice_set s.at w p }
@@ -26,7 +29,7 @@ abbrev pub locked : Words → ℕ → Outcome Words
 locked s w = known w s (locks (label s w) s (put s s.holder w Waiting))
 
 abbrev pub unlocked : Words → ℕ → Outcome Words
-unlocked s w = known w s (unlocks (label s w) (names s.holder w) s (put s s.holder w Leaving))
+unlocked s w = known w s (unlocks (label s w) (mark s w) s (put s s.holder w Leaving))
 
 -- W0: enter where the word is free, else stay
 abbrev pub W0 : Option ℕ → Words → ℕ → Outcome Words
@@ -60,3 +63,6 @@ holding Leaving = true
 -- the word names exactly the worker that is inside or leaving
 abbrev pub Named : Words → Type 0
 Named s = (w : ℕ) → holding (label s w) ≡ names s.holder w
+
+abbrev pub Holds : Words → Type 0
+Holds s = Sixteen s × Named s

@@ -1,7 +1,7 @@
 ghost use Rattle.std.specs.Prelude.{◌≡◌};
-ghost use Rattle.tas.specs.Accesses.{new_words, locked, unlocked, stepped};
+ghost use Rattle.lock.specs.declared.place.Place.TheVariants.{Waiting, Leaving};
 
-use lock::{Answer, Place, Refusal, index_of};
+use lock::{Algorithm, Answer, Place, Refusal, Ruled, item_or, put_item};
 
 // The shared word and each worker's label, which here is its place: a waiting worker has the one
 // access W0 before it, a leaving worker the one access X0.
@@ -11,65 +11,79 @@ pub struct Words {
     pub at: [Place; 16],
 }
 
-impl Words {
-    pub fn new() -> Words
-        ensures { result ≡ new_words }
-    {
+impl Algorithm for Words {
+    ghost use Rattle.tas.specs.Accesses.{Holds, new_words, label, mark, put, access};
+    ghost use Rattle.tas.specs.Distance.{distance};
+
+    const BOUND: u32 = 2;
+
+    ghost BOUND = { 2 };
+
+    ghost place_of = { label };
+
+    ghost distance_of = { distance };
+
+    ghost shows = { mark };
+
+    ghost new = { new_words };
+
+    ghost come = { λ s w. put s s.holder w Waiting };
+
+    ghost leave = { λ s w. put s s.holder w Leaving };
+
+    ghost access = { λ s w. access (label s w) s w };
+
+    ghost Holds = { Holds };
+
+    fn place_of(&self, w: u8) -> Place {
+        item_or(&self.at, w, Place::Out)
+    }
+
+    fn distance_of(&self, w: u8) -> Option<u32> {
+        match (self.place_of(w), self.holder) {
+            (Place::Leaving, _) => Some(2),
+            (Place::Waiting, None) => Some(1),
+            _ => None,
+        }
+    }
+
+    fn shows(&self, w: u8) -> bool {
+        self.holder == Some(w)
+    }
+
+    fn new() -> Words {
         Words {
             holder: None,
             at: [Place::Out; 16],
         }
     }
 
-    pub fn lock(&mut self, w: u8) -> Result<Answer, Refusal>
-        ensures { (self.new, result) ≡ locked self.old w }
-    {
-        let i = index_of(w)?;
-        let place = self.at[i];
-        match place {
-            Place::Out => {
-                self.at[i] = Place::Waiting;
-                Ok(Answer::Done)
-            }
-            Place::Inside => Err(Refusal::Held),
-            Place::Waiting | Place::Leaving => Err(Refusal::Busy),
-        }
+    fn come(&mut self, w: u8) {
+        put_item(&mut self.at, w, Place::Waiting);
     }
 
-    pub fn unlock(&mut self, w: u8) -> Result<Answer, Refusal>
-        ensures { (self.new, result) ≡ unlocked self.old w }
-    {
-        let i = index_of(w)?;
-        let place = self.at[i];
-        match place {
-            Place::Waiting | Place::Leaving => Err(Refusal::Busy),
-            Place::Out | Place::Inside if self.holder == Some(w) => {
-                self.at[i] = Place::Leaving;
-                Ok(Answer::Done)
-            }
-            Place::Out | Place::Inside => Err(Refusal::NotHeld),
-        }
+    fn leave(&mut self, w: u8) {
+        put_item(&mut self.at, w, Place::Leaving);
     }
 
-    // One access by a worker on its way.
-    pub fn step(&mut self, w: u8) -> Result<Answer, Refusal>
-        ensures { (self.new, result) ≡ stepped self.old w }
-    {
-        let i = index_of(w)?;
-        let place = self.at[i];
-        match place {
+    fn access(&mut self, w: u8) -> Result<Answer, Refusal> {
+        match self.place_of(w) {
             Place::Waiting if self.holder.is_none() => {
                 self.holder = Some(w);
-                self.at[i] = Place::Inside;
+                put_item(&mut self.at, w, Place::Inside);
                 Ok(Answer::Entered)
             }
             Place::Waiting => Ok(Answer::Done),
             Place::Leaving => {
                 self.holder = None;
-                self.at[i] = Place::Out;
+                put_item(&mut self.at, w, Place::Out);
                 Ok(Answer::Left)
             }
             Place::Out | Place::Inside => Err(Refusal::Idle),
         }
     }
+}
+
+impl Ruled for Words {
+    fn keeps_rules() {}
 }
