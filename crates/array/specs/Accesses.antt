@@ -1,5 +1,5 @@
 -- Every word of the array lock after every call.
-use Rattle.std.specs.Prelude.{ℕ, ◌+◌, ◌%◌, ◌<◌, Bool, true, false, cond, ◌∷◌, replicate, is_some, Some, None, Ok, Err, Option, slice_index_or, slice_set}
+use Rattle.std.specs.Prelude.{ℕ, ◌+◌, ◌%◌, Bool, true, false, cond, ◌∷◌, replicate, is_some, Some, None, Ok, Err, Option, slice_index_or, slice_set}
 use Rattle.lock.specs.declared.place.Place.{Place}
 use Rattle.lock.specs.declared.answer.Answer.TheVariants.{Done, Entered, Left}
 use Rattle.lock.specs.declared.refusal.Refusal.TheVariants.{Idle}
@@ -24,10 +24,6 @@ number s w = slice_index_or s.numbers w None
 
 abbrev pub opened : Words → ℕ → Bool
 opened s k = slice_index_or s.slots k false
-
-abbrev pub BelowSixteen : Option ℕ → Type 0
-BelowSixteen None = Unit {0}
-BelowSixteen (Some k) = k < 16
 
 abbrev pub stage_at : Label → Stage
 stage_at Out = Away

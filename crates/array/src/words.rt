@@ -1,8 +1,10 @@
 ghost use Rattle.std.specs.Prelude.{◌≡◌};
-ghost use Rattle.array.specs.Accesses.{new_words, number, opened, stage_at, BelowSixteen, locked, unlocked, stepped};
-ghost use Rattle.array.specs.Distance.{turn_at};
+ghost use Rattle.array.specs.declared.words.Label.TheVariants.{W0, X0};
+ghost use Rattle.array.specs.Accesses.{new_words, label, number, opened, stage_at, place, mark, put, access};
+ghost use Rattle.array.specs.Distance.{turn_at, distance};
+ghost use Rattle.array.specs.Facts.{Holds};
 
-use lock::{Answer, Refusal, index_of};
+use lock::{Algorithm, Answer, Place, Refusal, Ruled, item_or, put_item};
 use queue::Stage;
 
 // The access that a worker has before it.
@@ -41,9 +43,65 @@ pub struct Words {
 }
 
 impl Words {
-    pub fn new() -> Words
-        ensures { result ≡ new_words }
+    fn label(&self, w: u8) -> Label
+        ensures { result ≡ label self.now w }
     {
+        item_or(&self.at, w, Label::Out)
+    }
+
+    fn number(&self, w: u8) -> Option<u8>
+        ensures { result ≡ number self.now w }
+    {
+        item_or(&self.numbers, w, None)
+    }
+
+    // Whether the slot of a worker at the stage is open, its own or that which it would be given.
+    fn turn(&self, stage: Stage, slot: Option<u8>) -> bool
+        ensures { result ≡ turn_at self.now.next (opened self.now) stage slot }
+    {
+        match (stage, slot) {
+            (Stage::Coming, _) => self.slots[(self.next % 16) as usize],
+            (Stage::Queued, Some(k)) => item_or(&self.slots, k, false),
+            _ => false,
+        }
+    }
+}
+
+impl Algorithm for Words {
+    const BOUND: u32 = 4;
+
+    ghost BOUND = { 4 };
+
+    ghost place_of = { place };
+
+    ghost distance_of = { distance };
+
+    ghost shows = { mark };
+
+    ghost new = { new_words };
+
+    ghost come = { λ s w. put s w W0 };
+
+    ghost leave = { λ s w. put s w X0 };
+
+    ghost access = { λ s w. access (label s w) (number s w) s w };
+
+    ghost Holds = { Holds };
+
+    fn place_of(&self, w: u8) -> Place {
+        self.label(w).stage().place()
+    }
+
+    fn distance_of(&self, w: u8) -> Option<u32> {
+        let stage = self.label(w).stage();
+        stage.distance(self.turn(stage, self.number(w)))
+    }
+
+    fn shows(&self, w: u8) -> bool {
+        self.number(w).is_some()
+    }
+
+    fn new() -> Words {
         let mut slots = [false; 16];
         slots[0] = true;
         Words {
@@ -54,80 +112,44 @@ impl Words {
         }
     }
 
-    // Whether the slot of a worker at the stage is open, its own or that which it would be given.
-    pub(crate) fn turn(&self, stage: Stage, slot: Option<u8>) -> bool
-        requires { BelowSixteen slot }
-        ensures { result ≡ turn_at self.now.next (opened self.now) stage slot }
-    {
-        match (stage, slot) {
-            (Stage::Coming, _) => self.slots[(self.next % 16) as usize],
-            (Stage::Queued, Some(k)) => self.slots[usize::from(k)],
-            _ => false,
-        }
+    fn come(&mut self, w: u8) {
+        put_item(&mut self.at, w, Label::W0);
     }
 
-    pub fn lock(&mut self, w: u8) -> Result<Answer, Refusal>
-        ensures { (self.new, result) ≡ locked self.old w }
-    {
-        let i = index_of(w)?;
-        let label = self.at[i];
-        match label {
-            Label::Out => {
-                self.at[i] = Label::W0;
-                Ok(Answer::Done)
-            }
-            Label::Inside => Err(Refusal::Held),
-            Label::W0 | Label::W1 | Label::W2 | Label::X0 => Err(Refusal::Busy),
-        }
+    fn leave(&mut self, w: u8) {
+        put_item(&mut self.at, w, Label::X0);
     }
 
-    pub fn unlock(&mut self, w: u8) -> Result<Answer, Refusal>
-        ensures { (self.new, result) ≡ unlocked self.old w }
-    {
-        let i = index_of(w)?;
-        let label = self.at[i];
-        match label {
-            Label::W0 | Label::W1 | Label::W2 | Label::X0 => Err(Refusal::Busy),
-            Label::Out | Label::Inside if self.numbers[i].is_some() => {
-                self.at[i] = Label::X0;
-                Ok(Answer::Done)
-            }
-            Label::Out | Label::Inside => Err(Refusal::NotHeld),
-        }
-    }
-
-    // One access by a worker on its way, which has a slot number from W1 on.
-    pub(crate) fn step(&mut self, w: u8) -> Result<Answer, Refusal>
-        requires { BelowSixteen (number self.old w) }
-        ensures { (self.new, result) ≡ stepped self.old w }
-    {
-        let i = index_of(w)?;
-        let label = self.at[i];
-        let slot = self.numbers[i];
-        match (label, slot) {
+    // A worker has a slot number from W1 on; without one it would stay.
+    fn access(&mut self, w: u8) -> Result<Answer, Refusal> {
+        match (self.label(w), self.number(w)) {
             (Label::W0, _) => {
-                self.numbers[i] = Some((self.next % 16) as u8);
+                put_item(&mut self.numbers, w, Some((self.next % 16) as u8));
                 self.next = self.next.wrapping_add(1);
-                self.at[i] = Label::W1;
+                put_item(&mut self.at, w, Label::W1);
                 Ok(Answer::Done)
             }
-            (Label::W1, Some(k)) if self.slots[usize::from(k)] => {
-                self.at[i] = Label::W2;
+            (Label::W1, Some(k)) if item_or(&self.slots, k, false) => {
+                put_item(&mut self.at, w, Label::W2);
                 Ok(Answer::Done)
             }
             (Label::W2, Some(k)) => {
-                self.slots[usize::from(k)] = false;
-                self.at[i] = Label::Inside;
+                put_item(&mut self.slots, k, false);
+                put_item(&mut self.at, w, Label::Inside);
                 Ok(Answer::Entered)
             }
             (Label::X0, Some(k)) => {
                 self.slots[(usize::from(k) + 1) % 16] = true;
-                self.numbers[i] = None;
-                self.at[i] = Label::Out;
+                put_item(&mut self.numbers, w, None);
+                put_item(&mut self.at, w, Label::Out);
                 Ok(Answer::Left)
             }
             (Label::W1 | Label::W2 | Label::X0, _) => Ok(Answer::Done),
             (Label::Out | Label::Inside, _) => Err(Refusal::Idle),
         }
     }
+}
+
+impl Ruled for Words {
+    fn keeps_rules() {}
 }

@@ -1,5 +1,5 @@
 -- From what a kind of lock knows of its labels and words to the rules of the interface.
-use Rattle.std.proofs.Common.{◌≡◌, ℕ, ◌<◌, Bool, true, false, cond, eqb, ltb, List, length, get_or, set, Some, Ok, Err, Option, Result, sym, refl, ap, ◌∙◌, subst, ⊎_elim, arith, get_or-set_other, get_or-set_same}
+use Rattle.std.proofs.Common.{◌≡◌, ℕ, ◌<◌, Bool, true, false, cond, eqb, ltb, List, length, get_or, set, Some, Ok, Err, Option, sym, refl, ap, ◌∙◌, subst, ⊎_elim, arith, get_or-set_other, get_or-set_same}
 use mathlib.Core.Logic.{∥∥₁_elim, ∥∥₁_map}
 use mathlib.Core.HLevel.{⊥_prop}
 use native.Mathlib.Nat.{ℕ_set}
@@ -143,11 +143,3 @@ module _ {S Label : Type 0} {label : S → ℕ → Label} {place : Label → Pla
           go lt Waiting at = refused unlocking w lt Waiting at Busy (refl, refl)
           go lt Inside at = within lt at (mark s w) refl
           go lt Leaving at = refused unlocking w lt Leaving at Busy (refl, refl)
-
-  -- a lock that is its words
-  pub lifted : {L : Type 0} (words : L → S) → ((x y : L) → words x ≡ words y → x ≡ y) → (q : Request) (w : ℕ) (x y : L) (r : Result Answer Refusal) (o : Outcome S)
-      → (words y, r) ≡ o → Ruled q w (words x) o → Obeys (λ z. places (words z)) (λ z. due (words z)) q w r x y
-  lifted words one q w x y r o e k =
-      let K : Outcome S → Type 0 = λ p. Obeys places due q w p.1 (words x) p.0 in
-      let m : Obeys places due q w r (words x) (words y) = subst K (sym e) k in
-      record { unknown = m.unknown; caller = m.caller; others = m.others; refused = λ e k. one y x (m.refused e k); approach = m.approach; due_step = m.due_step }

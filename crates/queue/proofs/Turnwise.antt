@@ -1,10 +1,7 @@
 -- A kind of lock whose workers go through the queue by turns: its calls keep the rules of a lock.
-use Rattle.std.proofs.Common.{◌≡◌, ℕ, ◌<◌, ◌≤◌, Bool, true, false, Ok, Err, Result, sym, refl, ap, ◌∙◌, subst, arith}
-use mathlib.Core.Logic.{∥∥₁_elim, ∥∥₁_map}
+use Rattle.std.proofs.Common.{◌≡◌, ℕ, ◌<◌, ◌≤◌, Bool, true, false, Ok, Err, refl, ap, ◌∙◌, subst, arith}
 use Rattle.lock.specs.declared.place.Place.TheVariants as place
-use Rattle.lock.specs.declared.answer.Answer.{Answer}
 use Rattle.lock.specs.declared.answer.Answer.TheVariants.{Done, Entered, Left}
-use Rattle.lock.specs.declared.refusal.Refusal.{Refusal}
 use Rattle.lock.specs.declared.refusal.Refusal.TheVariants.{Idle}
 use Rattle.lock.specs.Rules.{Request, locking, unlocking, stepping}
 use Rattle.lock.specs.Calls.{Outcome, known, locks, unlocks, upd}
@@ -103,10 +100,3 @@ module _ {S : Type 0} {stage : S → ℕ → Stage} {turn mark : S → ℕ → B
         hands_on n at to = labelled.goes kind s ok stepping w lt place.Leaving (ap place_of at) t Left Away to refl keep
             (λ f l m z. on_hand (c.turns s f) w lt (turn t) n at (c.far s w n at).0
             (some (subst (λ g. Turns (line t (keep f)) g (turn t)) to (c.turns t (keep f))) m z))
-
--- what a call leaves of facts whose second part is known to hold and not in which way
-pub kept : {S : Type 0} (Sized Ordered : S → Type 0) → ((x : S) (p q : Sized x) → p ≡ q) → (s x : S) (r : Result Answer Refusal) (o : Outcome S)
-    → ∥ Sized s × Ordered s ∥₁ → (x, r) ≡ o → (Sized s × Ordered s → Sized o.0 × Ordered o.0) → Sized x × ∥ Ordered x ∥₁
-kept {S} Sized Ordered prop s x r o ok e keep =
-    let after : ∥ Sized x × Ordered x ∥₁ = ∥∥₁_map ok (λ f. subst (λ (p : Outcome S). Sized p.0 × Ordered p.0) (sym e) (keep f)) in
-    (∥∥₁_elim after (prop x) (λ f. f.0), ∥∥₁_map after (λ f. f.1))

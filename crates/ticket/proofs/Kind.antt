@@ -1,14 +1,14 @@
 -- The ticket lock goes by turns: the ticket that is served is that of the first in the line.
-use Rattle.std.proofs.Common.{◌≡◌, ℕ, ◌≤◌, Bool, true, false, eqb, sym, refl, ◌∙◌, arith}
+use Rattle.std.proofs.Common.{◌≡◌, ℕ, ◌≤◌, true, false, eqb, sym, refl, ◌∙◌, arith}
 use Rattle.queue.specs.declared.stage.Stage.TheVariants.{Away, Coming, Queued, Within, Leaving}
 use Rattle.queue.proofs.Turns.{Turns}
 use Rattle.queue.proofs.Turnwise.{Turnwise}
 use Rattle.ticket.specs.declared.words.Label.{Label}
 use Rattle.ticket.specs.declared.words.Label.TheVariants.{Out, W0, W1, W2, Inside, X0, X1}
 use Rattle.ticket.specs.declared.words.Words.{Words}
-use Rattle.ticket.specs.Accesses.{label, stage_at, stage, names}
+use Rattle.ticket.specs.Accesses.{label, stage_at, stage, mark}
 use Rattle.ticket.specs.Distance.{turn_at, turn}
-use Rattle.ticket.specs.Facts.{Sixteen, holding, Ordered}
+use Rattle.ticket.specs.Facts.{holding, Holds}
 use Rattle.ticket.proofs.Keeps.{first_served, none_drawn}
 
 -- ## What a stage tells of the label
@@ -42,13 +42,7 @@ far X1 n e = let k : 4 ≡ n = cc in (omega arith, omega arith)
 
 -- ## The turns
 
-abbrev pub Facts : Words → Type 0
-Facts s = Sixteen s × Ordered s
-
-abbrev pub mark : Words → ℕ → Bool
-mark s w = names s.holder w
-
-turns : (s : Words) (f : Facts s) → Turns f.1.0 (stage s) (turn s)
+turns : (s : Words) (f : Holds s) → Turns f.1.0 (stage s) (turn s)
 turns s (len, (o, f)) = record { staged = f.staged; own = λ w. own w (label s w) refl; vacant = λ w lt. vacant w (label s w) refl }
   where
     own : (w : ℕ) (l : Label) → label s w ≡ l → stage_at l ≡ Queued → turn_at s.next s.serving l ≡ eqb o.first (o.rank w)
@@ -69,7 +63,7 @@ turns s (len, (o, f)) = record { staged = f.staged; own = λ w. own w (label s w
     vacant w X0 at e = grind (arith, e)
     vacant w X1 at e = grind (arith, e)
 
-pub kind : Turnwise stage turn mark 5 Facts (λ s f. f.1.0)
+pub kind : Turnwise stage turn mark 5 Holds (λ s f. f.1.0)
 kind = record {
   wide = omega arith;
   far = λ s w. far (label s w);

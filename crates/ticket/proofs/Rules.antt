@@ -1,18 +1,12 @@
 -- Each call of the ticket lock keeps the facts of its words and the rules of a lock.
-use Rattle.std.proofs.Common.{◌≡◌, ℕ, ◌<◌, Bool, true, false, cond, eqb, length, get_or, set, replicate, Some, None, Ok, Result, sym, refl, ap, ◌∙◌, subst, arith, length-set, get_or-set_other}
-use mathlib.Core.Logic.{∥∥₁_map, ∥∥₁_prop}
-use mathlib.Core.HLevel.{is_prop→PathP}
+use Rattle.std.proofs.Common.{◌≡◌, ℕ, ◌<◌, Bool, true, false, cond, eqb, length, get_or, set, Some, None, Ok, sym, refl, ap, ◌∙◌, subst, arith, length-set, get_or-set_other}
+use mathlib.Core.Logic.{∥∥₁_elim}
 use native.Mathlib.Nat.{ℕ_set}
 use Rattle.std.proofs.lemmas.Bool.{eq-eqb, ne_eqb, eqb-true, false≢true}
-use Rattle.lock.specs.declared.place.Place.TheVariants as place
-use Rattle.lock.specs.declared.answer.Answer.{Answer}
 use Rattle.lock.specs.declared.answer.Answer.TheVariants.{Done}
-use Rattle.lock.specs.declared.refusal.Refusal.{Refusal}
-use Rattle.lock.specs.Rules.{Request, locking, unlocking, stepping, Obeys, Sound}
+use Rattle.lock.specs.Rules.{Request, locking, unlocking, stepping}
 use Rattle.lock.specs.Calls.{Outcome, upd}
-use Rattle.lock.specs.Distance.{listed}
 use Rattle.lock.proofs.Small.{all_same}
-use Rattle.lock.proofs.Single.{sound_prop}
 use Rattle.lock.proofs.Labelled as labelled
 use Rattle.lock.proofs.Labelled.{read_set}
 use Rattle.queue.specs.Stages.{in_line, at_front}
@@ -23,34 +17,30 @@ use Rattle.queue.proofs.Turnwise as turnwise
 use Rattle.ticket.specs.declared.words.Label.{Label}
 use Rattle.ticket.specs.declared.words.Label.TheVariants.{Out, W0, W1, W2, Inside, X0, X1}
 use Rattle.ticket.specs.declared.words.Words.{Words}
-use Rattle.ticket.specs.declared.Ticket.{Ticket}
-use Rattle.ticket.specs.Accesses.{new_words, label, stage_at, stage, place, put, access, locked, unlocked, stepped}
-use Rattle.ticket.specs.Distance.{turn_at, turn, due_pair}
-use Rattle.ticket.specs.Facts.{Sixteen, holding, Counted, Ordered, Lined}
+use Rattle.ticket.specs.Accesses.{new_words, label, stage_at, stage, put, access, locked, unlocked, stepped}
+use Rattle.ticket.specs.Distance.{turn_at, turn}
+use Rattle.ticket.specs.Facts.{Sixteen, holding, Counted, Holds}
 use Rattle.ticket.proofs.Keeps.{first_served, moved, other_free, drawn, served}
-use Rattle.ticket.proofs.Kind.{within_holds, away_free, Facts, kind}
+use Rattle.ticket.proofs.Kind.{within_holds, away_free, kind}
 
 -- ## The calls
 
-module _ (t : Ticket) (w : ℕ) where
-  abbrev pub words : Words
-  words = t.words
-
-  abbrev pub facts : ∥ Facts words ∥₁
-  facts = ∥∥₁_map t.lined (λ f. (t.sixteen, f))
+module _ (words : Words) (w : ℕ) (facts : ∥ Holds words ∥₁) where
+  sixteen : Sixteen words
+  sixteen = ∥∥₁_elim facts (ℕ_set _ _) (λ f. f.0)
 
   abbrev pub Good : Request → Outcome Words → Type 0
   Good q o = turnwise.Good kind words facts w q o
 
   module _ (x : Words) (l : Label) (at : x.at ≡ set words.at w l) (lt : w < 16) where
     labels : label x ≡ upd (label words) w l
-    labels = ap (λ a v. get_or a v Out) at ∙ read_set words.at w l Out (omega (arith, t.sixteen))
+    labels = ap (λ a v. get_or a v Out) at ∙ read_set words.at w l Out (omega (arith, sixteen))
 
     stages : stage x ≡ upd (stage words) w (stage_at l)
-    stages = ap (λ a v. stage_at (get_or a v Out)) at ∙ mapped_set stage_at words.at w l Out (omega (arith, t.sixteen))
+    stages = ap (λ a v. stage_at (get_or a v Out)) at ∙ mapped_set stage_at words.at w l Out (omega (arith, sixteen))
 
     -- the line becomes p of what it was
-    keeps : (p : Line → Line) → ((o : Line) → Counted words.next words.serving words.holder (label words) o → Counted x.next x.serving x.holder (upd (label words) w l) (p o)) → Facts words → Facts x
+    keeps : (p : Line → Line) → ((o : Line) → Counted words.next words.serving words.holder (label words) o → Counted x.next x.serving x.holder (upd (label words) w l) (p o)) → Holds words → Holds x
     keeps p g (len, (o, f)) = (ap length at ∙ (length-set words.at w l ∙ len), (p o, subst (λ L. Counted x.next x.serving x.holder L (p o)) (sym labels) (g o f)))
 
   module _ (lt : w < 16) where
@@ -100,42 +90,17 @@ module _ (t : Ticket) (w : ℕ) where
   pub step_good : Good stepping (stepped words w)
   step_good = labelled.looked (turnwise.kind kind) words facts stepping w _ (λ lt. step_at lt (label words w) refl)
 
--- ## The lock
-
--- what a lock of such words owes
-owed : (x : Words) → Sixteen x → Lined x → record { sixteen : Sixteen x; lined : Lined x; sound : Sound 5 (listed (place x)) (due_pair x) }
-owed x n l = record { sixteen = n; lined = l; sound = labelled.sound (turnwise.kind kind) x (∥∥₁_map l (λ f. (n, f))) }
-
-pub kept : (s : Ticket) (w : ℕ) (q : Request) (x : Words) (r : Result Answer Refusal) (o : Outcome Words) → (x, r) ≡ o → Good s w q o → record { sixteen : Sixteen x; lined : Lined x; sound : Sound 5 (listed (place x)) (due_pair x) }
-kept s w q x r o e g = let k = turnwise.kept Sixteen Ordered (λ y. ℕ_set _ _) s.words x r o (facts s w) e g.0 in owed x k.0 k.1
-
--- a lock is its words
-same_lock : (s t : Ticket) → s.words ≡ t.words → s ≡ t
-same_lock s t e = λ i. record {
-  words = e i;
-  sixteen = is_prop→PathP (λ j. Sixteen (e j)) (λ j. ℕ_set _ _) s.sixteen t.sixteen i;
-  lined = is_prop→PathP (λ j. Lined (e j)) (λ j. ∥∥₁_prop) s.lined t.lined i;
-  sound = is_prop→PathP (λ j. Sound 5 (listed (place (e j))) (due_pair (e j))) (λ j. sound_prop _ _ _) s.sound t.sound i;
-}
-
-pub told : (s t : Ticket) (w : ℕ) (q : Request) (r : Result Answer Refusal) (o : Outcome Words) → (t.words, r) ≡ o → Good s w q o → Obeys (λ z. listed (place z.words)) (λ z. due_pair z.words) q w r s t
-told s t w q r o e g = labelled.lifted (turnwise.kind kind) (λ (z : Ticket). z.words) same_lock q w s t r o e g.1
-
-pub new_out : (s : Ticket) → s.words ≡ new_words → listed (place s.words) ≡ replicate 16 place.Out
-unfolding listed
-new_out s e = ap (λ x. listed (place x)) e
-
-new_lined : Lined new_words
-new_lined = ∣ (
-  empty,
-  record {
-    staged = nobody _ (λ v. ap stage_at (all_same 16 Out v));
-    gives = refl;
-    serves = refl;
-    drew = λ v t e. grind (arith, all_same 16 Out v, e);
-    marks = λ v. ap holding (all_same 16 Out v);
-  },
-) ∣₁
-
-pub new_kept : (x : Words) → x ≡ new_words → record { sixteen : Sixteen x; lined : Lined x; sound : Sound 5 (listed (place x)) (due_pair x) }
-new_kept x e = owed x (ap (λ s. length s.at) e) (subst Lined (sym e) new_lined)
+pub new_holds : Holds new_words
+new_holds = (
+  refl,
+  (
+    empty,
+    record {
+      staged = nobody _ (λ v. ap stage_at (all_same 16 Out v));
+      gives = refl;
+      serves = refl;
+      drew = λ v t e. grind (arith, all_same 16 Out v, e);
+      marks = λ v. ap holding (all_same 16 Out v);
+    },
+  ),
+)

@@ -38,6 +38,9 @@ abbrev pub names : Option ℕ → ℕ → Bool
 names None w = false
 names (Some h) w = h == w
 
+abbrev pub mark : Words → ℕ → Bool
+mark s w = names s.holder w
+
 abbrev pub put : Words → ℕ → Label → Words
 put s w l = record { next = s.next; serving = s.serving; holder = s.holder; at = slice_set s.at w l }
 
@@ -45,7 +48,7 @@ abbrev pub locked : Words → ℕ → Outcome Words
 locked s w = known w s (locks (place s w) s (put s w W0))
 
 abbrev pub unlocked : Words → ℕ → Outcome Words
-unlocked s w = known w s (unlocks (place s w) (names s.holder w) s (put s w X0))
+unlocked s w = known w s (unlocks (place s w) (mark s w) s (put s w X0))
 
 -- W0 draws a ticket, W1 stays until it is served, W2 writes the holder, X0 clears it, X1 serves the next ticket
 abbrev pub access : Label → Words → ℕ → Outcome Words

@@ -1,8 +1,10 @@
 ghost use Rattle.std.specs.Prelude.{◌≡◌};
-ghost use Rattle.ticket.specs.Accesses.{new_words, stage_at, locked, unlocked, stepped};
-ghost use Rattle.ticket.specs.Distance.{turn_at};
+ghost use Rattle.ticket.specs.declared.words.Label.TheVariants.{W0, X0};
+ghost use Rattle.ticket.specs.Accesses.{stage_at, new_words, label, place, mark, put, access};
+ghost use Rattle.ticket.specs.Distance.{turn_at, distance};
+ghost use Rattle.ticket.specs.Facts.{Holds};
 
-use lock::{Answer, Refusal, index_of};
+use lock::{Algorithm, Answer, Place, Refusal, Ruled, item_or, put_item};
 use queue::Stage;
 
 // The access that a worker has before it; at W1 with the ticket that it drew.
@@ -43,19 +45,14 @@ pub struct Words {
 }
 
 impl Words {
-    pub fn new() -> Words
-        ensures { result ≡ new_words }
+    fn label(&self, w: u8) -> Label
+        ensures { result ≡ label self.now w }
     {
-        Words {
-            next: 0,
-            serving: 0,
-            holder: None,
-            at: [Label::Out; 16],
-        }
+        item_or(&self.at, w, Label::Out)
     }
 
     // Whether the ticket that is served is that of a worker at the label, drawn or next to be drawn.
-    pub fn turn(&self, label: Label) -> bool
+    fn turn(&self, label: Label) -> bool
         ensures { result ≡ turn_at self.now.next self.now.serving label }
     {
         match label {
@@ -64,71 +61,92 @@ impl Words {
             Label::Out | Label::W2 | Label::Inside | Label::X0 | Label::X1 => false,
         }
     }
+}
 
-    pub fn lock(&mut self, w: u8) -> Result<Answer, Refusal>
-        ensures { (self.new, result) ≡ locked self.old w }
-    {
-        let i = index_of(w)?;
-        let label = self.at[i];
-        match label {
-            Label::Out => {
-                self.at[i] = Label::W0;
-                Ok(Answer::Done)
-            }
-            Label::Inside => Err(Refusal::Held),
-            Label::W0 | Label::W1(_) | Label::W2 | Label::X0 | Label::X1 => Err(Refusal::Busy),
+impl Algorithm for Words {
+    const BOUND: u32 = 5;
+
+    ghost BOUND = { 5 };
+
+    ghost place_of = { place };
+
+    ghost distance_of = { distance };
+
+    ghost shows = { mark };
+
+    ghost new = { new_words };
+
+    ghost come = { λ s w. put s w W0 };
+
+    ghost leave = { λ s w. put s w X0 };
+
+    ghost access = { λ s w. access (label s w) s w };
+
+    ghost Holds = { Holds };
+
+    fn place_of(&self, w: u8) -> Place {
+        self.label(w).stage().place()
+    }
+
+    fn distance_of(&self, w: u8) -> Option<u32> {
+        let label = self.label(w);
+        label.stage().distance(self.turn(label))
+    }
+
+    fn shows(&self, w: u8) -> bool {
+        self.holder == Some(w)
+    }
+
+    fn new() -> Words {
+        Words {
+            next: 0,
+            serving: 0,
+            holder: None,
+            at: [Label::Out; 16],
         }
     }
 
-    pub fn unlock(&mut self, w: u8) -> Result<Answer, Refusal>
-        ensures { (self.new, result) ≡ unlocked self.old w }
-    {
-        let i = index_of(w)?;
-        let label = self.at[i];
-        match label {
-            Label::W0 | Label::W1(_) | Label::W2 | Label::X0 | Label::X1 => Err(Refusal::Busy),
-            Label::Out | Label::Inside if self.holder == Some(w) => {
-                self.at[i] = Label::X0;
-                Ok(Answer::Done)
-            }
-            Label::Out | Label::Inside => Err(Refusal::NotHeld),
-        }
+    fn come(&mut self, w: u8) {
+        put_item(&mut self.at, w, Label::W0);
     }
 
-    // One access by a worker on its way.
-    pub fn step(&mut self, w: u8) -> Result<Answer, Refusal>
-        ensures { (self.new, result) ≡ stepped self.old w }
-    {
-        let i = index_of(w)?;
-        let label = self.at[i];
-        match label {
+    fn leave(&mut self, w: u8) {
+        put_item(&mut self.at, w, Label::X0);
+    }
+
+    fn access(&mut self, w: u8) -> Result<Answer, Refusal> {
+        match self.label(w) {
             Label::W0 => {
                 let ticket = self.next;
                 self.next = ticket.wrapping_add(1);
-                self.at[i] = Label::W1(ticket);
+                put_item(&mut self.at, w, Label::W1(ticket));
                 Ok(Answer::Done)
             }
             Label::W1(ticket) if self.serving == ticket => {
-                self.at[i] = Label::W2;
+                put_item(&mut self.at, w, Label::W2);
                 Ok(Answer::Done)
             }
             Label::W1(_) => Ok(Answer::Done),
             Label::W2 => {
                 self.holder = Some(w);
-                self.at[i] = Label::Inside;
+                put_item(&mut self.at, w, Label::Inside);
                 Ok(Answer::Entered)
             }
             Label::X0 => {
                 self.holder = None;
-                self.at[i] = Label::X1;
+                put_item(&mut self.at, w, Label::X1);
                 Ok(Answer::Done)
             }
             Label::X1 => {
                 self.serving = self.serving.wrapping_add(1);
-                self.at[i] = Label::Out;
+                put_item(&mut self.at, w, Label::Out);
                 Ok(Answer::Left)
             }
             Label::Out | Label::Inside => Err(Refusal::Idle),
         }
     }
+}
+
+impl Ruled for Words {
+    fn keeps_rules() {}
 }
