@@ -6,7 +6,7 @@ use crate::Refusal;
 use std::fmt;
 
 // What an accepted call answers.
-#[derive(Clone, Copy, PartialEq, Eq)]
+#[derive(Clone, Copy, Debug, PartialEq, Eq)]
 pub enum Answer {
     Done = 0,
     Entered = 20,

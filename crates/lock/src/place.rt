@@ -5,7 +5,7 @@ ghost use Rattle.lock.specs.Numbers.{place_number};
 use std::fmt;
 
 // Where a worker is.
-#[derive(Clone, Copy, PartialEq, Eq)]
+#[derive(Clone, Copy, Debug, PartialEq, Eq)]
 pub enum Place {
     Out = 0,
     Waiting = 1,

@@ -2,10 +2,11 @@ ghost use Rattle.std.specs.Prelude.{◌≡◌, Some};
 ghost use Rattle.lock.specs.Names.{refusal_name};
 ghost use Rattle.lock.specs.Numbers.{refusal_number};
 
+use std::error::Error;
 use std::fmt;
 
 // Why a call is turned down, the smaller number first where several causes apply.
-#[derive(Clone, Copy, PartialEq, Eq)]
+#[derive(Clone, Copy, Debug, PartialEq, Eq)]
 pub enum Refusal {
     // a worker above 15
     NoWorker = 1,
@@ -61,3 +62,5 @@ impl fmt::Display for Refusal {
         f.write_str(self.name())
     }
 }
+
+impl Error for Refusal {}

@@ -9,17 +9,13 @@ pub struct LockProxy<L> {
 impl<L: Lock> Lock for LockProxy<L> {
     const BOUND: u32 = L::BOUND;
 
-    ghost farthest = { L.Lock.farthest };
+    ghost BOUND = { L.BOUND };
 
-    ghost places = { λ s. L.Lock.places s.inner };
+    ghost places = { λ s. L.places s.inner };
 
-    ghost pair = { λ s. L.Lock.pair s.inner };
+    ghost pair = { λ s. L.pair s.inner };
 
-    ghost sound = { λ s. L.Lock.sound s.inner };
-
-    fn limit() -> u32 {
-        L::limit()
-    }
+    ghost sound = { λ s. L.sound s.inner };
 
     fn new() -> LockProxy<L> {
         LockProxy { inner: L::new() }
