@@ -1,5 +1,5 @@
 -- Every word of the array lock after every call.
-use Rattle.std.specs.Prelude.{ℕ, ◌+◌, ◌%◌, Bool, true, false, cond, ◌∷◌, replicate, is_some, Some, None, Ok, Err, Option, slice_index_or, slice_set}
+use Rattle.std.specs.Prelude.{ℕ, ◌+◌, ◌%◌, Bool, true, false, if◌then◌else◌, ◌∷◌, replicate, is_some, Some, None, Ok, Err, Option, slice_index_or, slice_set}
 use Rattle.lock.specs.declared.place.Place.{Place}
 use Rattle.lock.specs.declared.answer.Answer.TheVariants.{Done, Entered, Left}
 use Rattle.lock.specs.declared.refusal.Refusal.TheVariants.{Idle}
@@ -58,7 +58,7 @@ abbrev pub access : Label → Option ℕ → Words → ℕ → Outcome Words
 access Out k s w = (s, Err Idle)
 access W0 k s w = (record { next = more s.next; slots = s.slots; numbers = slice_set s.numbers w (Some (s.next % 16)); at = slice_set s.at w W1 }, Ok Done)
 access W1 None s w = (s, Ok Done)
-access W1 (Some k) s w = cond (opened s k) (put s w W2, Ok Done) (s, Ok Done)
+access W1 (Some k) s w = if opened s k then (put s w W2, Ok Done) else (s, Ok Done)
 access W2 None s w = (s, Ok Done)
 access W2 (Some k) s w = (record { next = s.next; slots = slice_set s.slots k false; numbers = s.numbers; at = slice_set s.at w Inside }, Ok Entered)
 access Inside k s w = (s, Err Idle)

@@ -1,6 +1,6 @@
 -- What holds of the words at every moment: they count the line of the workers that have taken a slot
 -- number and not yet opened the slot after it.
-use Rattle.std.specs.Prelude.{◌≡◌, ℕ, ◌%◌, ◌^◌, ◌<◌, Bool, true, false, cond, length, Some, None, Option, ◌==◌}
+use Rattle.std.specs.Prelude.{◌≡◌, ℕ, ◌%◌, ◌^◌, ◌<◌, Bool, true, false, if◌then◌else◌, length, Some, None, Option, ◌==◌}
 use Rattle.queue.specs.declared.stage.Stage.{Stage}
 use Rattle.queue.specs.declared.stage.Stage.TheVariants.{Away, Coming, Queued, Ready, Within, Leaving}
 use Rattle.queue.specs.Stages.{in_line, Staged}
@@ -25,7 +25,7 @@ pub record Counted (next : ℕ) (slots : ℕ → Bool) (numbers : ℕ → Option
   -- the next number counts the ranks given out
   pub gives : next ≡ o.end % 2 ^ 32
   -- whoever is in the line has its rank for a slot number, modulo 16
-  pub numbered : (w : ℕ) → numbers w ≡ cond (in_line (stage w)) (Some (o.rank w % 16)) None
+  pub numbered : (w : ℕ) → numbers w ≡ (if in_line (stage w) then Some (o.rank w % 16) else None)
   -- no slot is open while somebody holds, else the slot of the first rank alone
   pub shut : (w : ℕ) → holds (stage w) ≡ true → (k : ℕ) → k < 16 → slots k ≡ false
   pub opens : ((w : ℕ) → holds (stage w) ≡ false) → (k : ℕ) → k < 16 → slots k ≡ (o.first % 16 == k)

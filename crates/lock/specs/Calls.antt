@@ -1,5 +1,5 @@
 -- What the calls of every kind of lock have in common, over the words that a kind has.
-use Rattle.std.specs.Prelude.{ℕ, Bool, cond, Ok, Err, Result, ◌==◌, nat_lt}
+use Rattle.std.specs.Prelude.{ℕ, Bool, if◌then◌else◌, Ok, Err, Result, ◌==◌, nat_lt}
 use Rattle.lock.specs.declared.place.Place.{Place}
 use Rattle.lock.specs.declared.place.Place.TheVariants.{Out, Waiting, Inside, Leaving}
 use Rattle.lock.specs.declared.answer.Answer.{Answer}
@@ -9,7 +9,7 @@ use Rattle.lock.specs.declared.refusal.Refusal.TheVariants.{NoWorker, Busy, Held
 
 -- what `index_of` answers
 abbrev pub index_answer : ℕ → Result ℕ Refusal
-index_answer w = cond (nat_lt w 16) (Ok w) (Err NoWorker)
+index_answer w = if nat_lt w 16 then Ok w else Err NoWorker
 
 -- the words that a call leaves, and its answer
 abbrev pub Outcome : Type 0 → Type 0
@@ -17,7 +17,7 @@ Outcome S = S × Result Answer Refusal
 
 -- a call looks at its worker's number first
 abbrev pub known : {S : Type 0} → ℕ → S → Outcome S → Outcome S
-known w s o = cond (nat_lt w 16) o (s, Err NoWorker)
+known w s o = if nat_lt w 16 then o else (s, Err NoWorker)
 
 -- `lock` on the words s by a worker at a place, where an accepted one leaves t
 abbrev pub locks : {S : Type 0} → Place → S → S → Outcome S
@@ -28,11 +28,11 @@ locks Leaving s t = (s, Err Busy)
 
 -- `unlock` likewise; it goes by the mark, not by whether its caller is inside
 abbrev pub unlocks : {S : Type 0} → Place → Bool → S → S → Outcome S
-unlocks Out marked s t = cond marked (t, Ok Done) (s, Err NotHeld)
+unlocks Out marked s t = if marked then (t, Ok Done) else (s, Err NotHeld)
 unlocks Waiting marked s t = (s, Err Busy)
-unlocks Inside marked s t = cond marked (t, Ok Done) (s, Err NotHeld)
+unlocks Inside marked s t = if marked then (t, Ok Done) else (s, Err NotHeld)
 unlocks Leaving marked s t = (s, Err Busy)
 
 -- f with x at i
 abbrev pub upd : {A : Type 0} → (ℕ → A) → ℕ → A → ℕ → A
-upd f i x j = cond (j == i) x (f j)
+upd f i x j = if j == i then x else f j

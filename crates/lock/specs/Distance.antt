@@ -1,6 +1,6 @@
 -- Who is due, by distances: how many accesses at most are left until the worker, or another that it
 -- brings on, is inside. Most workers have no distance.
-use Rattle.std.specs.Prelude.{ℕ, zero, suc, Bool, true, false, cond, ◌||◌, List, map, Some, None, Option, nat_le}
+use Rattle.std.specs.Prelude.{ℕ, zero, suc, Bool, true, false, if◌then◌else◌, ◌||◌, List, map, Some, None, Option, nat_le}
 use Rattle.std.specs.List.{range_with_len}
 use Rattle.lock.specs.declared.place.Place.{Place}
 use Rattle.lock.specs.declared.place.Place.TheVariants.{Out, Waiting, Inside, Leaving}
@@ -13,7 +13,7 @@ listed f = map f (range_with_len 0 16)
 abbrev pub nearer : Option (ℕ × ℕ) → ℕ → Option ℕ → Option (ℕ × ℕ)
 nearer best v None = best
 nearer None v (Some d) = Some (v, d)
-nearer (Some b) v (Some d) = cond (nat_le b.1 d) (Some b) (Some (v, d))
+nearer (Some b) v (Some d) = if nat_le b.1 d then Some b else Some (v, d)
 
 -- the least distance among the first n workers, the lowest worker first
 unfoldable pub nearest : (ℕ → Option ℕ) → ℕ → Option (ℕ × ℕ)
@@ -39,4 +39,4 @@ anyone test f (suc n) = test (f n) || anyone test f n
 
 -- nobody is due where somebody is inside or nobody waits
 abbrev pub due_of : (ℕ → Place) → (ℕ → Option ℕ) → Option (ℕ × ℕ)
-due_of f u = cond (anyone is_inside f 16) None (cond (anyone is_waiting f 16) (nearest u 16) None)
+due_of f u = if anyone is_inside f 16 then None else (if anyone is_waiting f 16 then nearest u 16 else None)

@@ -1,5 +1,5 @@
 -- What a lock means: sixteen places and the due pair, and what each call does to them.
-use Rattle.std.specs.Prelude.{◌≡◌, ℕ, ◌<◌, ◌≤◌, cond, ◌⊎◌, List, length, Some, None, Ok, Err, Option, Result, ◌≢◌, nat_lt, slice_index_or}
+use Rattle.std.specs.Prelude.{◌≡◌, ℕ, ◌<◌, ◌≤◌, if◌then◌else◌, ◌⊎◌, List, length, Some, None, Ok, Err, Option, Result, ◌≢◌, nat_lt, slice_index_or}
 use Rattle.lock.specs.declared.place.Place.{Place}
 use Rattle.lock.specs.declared.place.Place.TheVariants.{Out, Waiting, Inside, Leaving}
 use Rattle.lock.specs.declared.answer.Answer.{Answer}
@@ -21,7 +21,7 @@ Somebody ps p = ∥ ((w : ℕ) × (place_at ps w ≡ p)) ∥₁
 
 -- what `place` answers, where f gives each worker's place
 abbrev pub place_answer : (ℕ → Place) → ℕ → Result Place Refusal
-place_answer f w = cond (nat_lt w 16) (Ok (f w)) (Err NoWorker)
+place_answer f w = if nat_lt w 16 then Ok (f w) else Err NoWorker
 
 -- ## One call
 

@@ -1,5 +1,5 @@
 -- What a stage says of its worker.
-use Rattle.std.specs.Prelude.{◌≡◌, ℕ, Bool, true, false, cond, Some, None, Option}
+use Rattle.std.specs.Prelude.{◌≡◌, ℕ, Bool, true, false, if◌then◌else◌, Some, None, Option}
 use Rattle.lock.specs.declared.place.Place.{Place}
 use Rattle.lock.specs.declared.place.Place.TheVariants as place
 use Rattle.queue.specs.declared.stage.Stage.{Stage}
@@ -35,8 +35,8 @@ at_front (Leaving d) = true
 -- how many accesses at most are left, where the flag says whether the turn is the worker's own
 abbrev pub distance_of : Stage → Bool → Option ℕ
 distance_of Away turn = None
-distance_of Coming turn = cond turn (Some 3) None
-distance_of Queued turn = cond turn (Some 2) None
+distance_of Coming turn = if turn then Some 3 else None
+distance_of Queued turn = if turn then Some 2 else None
 distance_of Ready turn = Some 1
 distance_of Within turn = None
 distance_of (Leaving d) turn = Some d

@@ -1,5 +1,5 @@
 -- Every word of the ticket lock after every call.
-use Rattle.std.specs.Prelude.{ℕ, Bool, false, cond, replicate, Some, None, Ok, Err, Option, ◌==◌, slice_index_or, slice_set}
+use Rattle.std.specs.Prelude.{ℕ, Bool, false, if◌then◌else◌, replicate, Some, None, Ok, Err, Option, ◌==◌, slice_index_or, slice_set}
 use Rattle.lock.specs.declared.place.Place.{Place}
 use Rattle.lock.specs.declared.answer.Answer.TheVariants.{Done, Entered, Left}
 use Rattle.lock.specs.declared.refusal.Refusal.TheVariants.{Idle}
@@ -54,7 +54,7 @@ unlocked s w = known w s (unlocks (place s w) (mark s w) s (put s w X0))
 abbrev pub access : Label → Words → ℕ → Outcome Words
 access Out s w = (s, Err Idle)
 access W0 s w = (record { next = more s.next; serving = s.serving; holder = s.holder; at = slice_set s.at w (W1 s.next) }, Ok Done)
-access (W1 t) s w = cond (s.serving == t) (put s w W2, Ok Done) (s, Ok Done)
+access (W1 t) s w = if s.serving == t then (put s w W2, Ok Done) else (s, Ok Done)
 access W2 s w = (record { next = s.next; serving = s.serving; holder = Some w; at = slice_set s.at w Inside }, Ok Entered)
 access Inside s w = (s, Err Idle)
 access X0 s w = (record { next = s.next; serving = s.serving; holder = None; at = slice_set s.at w X1 }, Ok Done)
