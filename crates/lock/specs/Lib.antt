@@ -5,3 +5,4 @@ pub mod Distance
 pub mod Names
 pub mod Algorithms
 pub mod Single
+pub mod Spinlocks
