@@ -5,4 +5,4 @@ use Rattle.book.proofs.Book.unlock.Goals as goal
 pub invariant_of-self-2 : goal.invariant_of-self-2
 invariant_of-self-2 g c =
     let b = c.args.self.now in
-    safe_put b.table c.clear.new.self c.from.result None c.clear.ensures (omega arith) (omega arith) (record { within = b.within; light = b.light; noted = b.noted; lifted = b.lifted })
+    safe_put b.table c.put.new.self c.args.w None c.put.ensures (omega arith) (omega arith) (record { within = b.within; light = b.light; noted = b.noted; lifted = b.lifted })

@@ -42,6 +42,5 @@ returns g c =
     record {
       value = sym (le-leb _ _ (omega (arith, c.if-room-events.false, c.room.ensures)));
       cases = ∥∥₁_map inv.0 (ran g.L.Lock.places g.L.Lock.pair g.L.Lock.farthest g.met.L.Lock.sound _ _ _ _ (take_all c.loop-event.event-index c.args.events.now c.loop-event-test.false));
-      memory = inv.3 ∙ ap (drop (list_len c.loop-event.answers)) c.clear.ensures.memory;
-      same = inv.4 ∙ c.clear.ensures.same;
+      rest = record { memory = inv.3 ∙ ap (drop (list_len c.loop-event.answers)) c.clear.ensures.memory; same = inv.4 ∙ c.clear.ensures.same };
     }
