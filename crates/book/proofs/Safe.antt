@@ -8,17 +8,8 @@ use Rattle.book.specs.declared.call.Call.TheVariants.{Enter}
 use Rattle.book.specs.declared.table.Slip.{Slip}
 use Rattle.book.specs.declared.table.Table.{Table}
 use Rattle.book.specs.Causes.{cause}
-use Rattle.book.specs.Stock.{slip_at, with_slip, recorded, refused_or, entered, slip_weight, slip_grams}
+use Rattle.book.specs.Stock.{slip_at, with_slip, recorded, refused_or, entered, slip_weight, slip_grams, Safe}
 use Rattle.book.proofs.Accepted.{enter_inside, enter_accepted}
-
--- what the ghost fields of a book say of its table
-abbrev pub Safe : Table → Type 0
-Safe tb = record {
-  within : tb.len ≤ 256;
-  light : tb.weight ≤ tb.len * 1000000;
-  noted : (w : ℕ) → slip_weight (slip_at tb w) ≤ tb.len * 1000000;
-  lifted : (w : ℕ) → slip_grams (slip_at tb w) ≤ 1000000;
-}
 
 -- a bound on every slip holds of one that is written, too
 put_below : (f : Option Slip → ℕ) (b : ℕ) (x : Option Slip) → f x ≤ b → (xs : List (Option Slip)) (i : ℕ) → ((w : ℕ) → f (get_or xs w None) ≤ b) → (w : ℕ) → f (get_or (set xs i x) w None) ≤ b

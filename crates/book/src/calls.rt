@@ -30,6 +30,7 @@ impl<L: Lock> Book<L> {
     }
 
     // An accepted unlock takes the worker's slip away.
+    #[tactic(auto, using(crate::proofs::Safe::safe_put))]
     pub fn unlock(&mut self, w: u8) -> Result<Answer, Refusal>
         ensures { Called L.places L.pair Call.Unlock w result self.old self.new }
     {
@@ -45,6 +46,7 @@ impl<L: Lock> Book<L> {
     }
 
     // Looks for a chest that is about to be entered with its grams.
+    #[tactic(auto, using(crate::proofs::Safe::safe_put))]
     pub fn look(&mut self, w: u8, chest: u32, grams: u32) -> Result<Answer, Refusal>
         ensures { Called L.places L.pair (Call.Look chest grams) w result self.old self.new }
     {
