@@ -122,9 +122,6 @@ module _ {S : Type 0} (places : S → List Place) (pair : S → Option (ℕ × �
       (λ l. ap (λ z. place_at (places z) v) (k.refused NoWorker (k.unknown l)) ∙ i) (cases_lt w 16))
       (λ n. k.others v n ∙ i) (cases_eq v w)
 
-  ok_err : (a : Answer) (e : Refusal) → Ok a ≡ Err e → ⊥
-  ok_err a e k = let z : ◌≡◌ {A = ℕ} 0 1 = cc in omega arith
-
   -- ## An unlock
 
   holding_unlocked : (w : ℕ) (due : Option (ℕ × ℕ)) (r : Result Answer Refusal) (h : History) (s s' : S) (tb : Table) → Obeys places pair unlocking w r s s' → Holding (places s) tb h → Holding (places s') (unlocked r w tb) (turn w Unlock r due ∷ h)
@@ -141,7 +138,7 @@ module _ {S : Type 0} (places : S → List Place) (pair : S → Option (ℕ × �
   }
     where
       known : w < 16
-      known = ⊎_elim (λ l. l) (λ l. absurd (ok_err a NoWorker (k.unknown l))) (cases_lt w 16)
+      known = ⊎_elim (λ l. l) (λ l. let said = k.unknown l in cc) (cases_lt w 16)
   holding_unlocked w due (Err x) h s s' tb k was = holding_still (places s) (places s') tb (turn w Unlock (Err x) due) h (refused_still w due h Unlock x) (λ v i. ap (λ z. place_at (places z) v) (k.refused x refl) ∙ i) was
 
 -- ## A look

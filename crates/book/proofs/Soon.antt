@@ -56,7 +56,7 @@ somebody_due bound ps free v waits (Some d) f = (d, refl, f.least, f.most)
 
 module _ {S : Type 0} (places : S → List Place) (pair : S → Option (ℕ × ℕ)) where
   same_distance : (s s' : S) (b a : ℕ × ℕ) → s' ≡ s → pair s ≡ Some b → pair s' ≡ Some a → b.1 ≡ a.1
-  same_distance s s' b a e x y = let z : Some b ≡ Some a = sym x ∙ (ap pair (sym e) ∙ y) in let q : b ≡ a = cc in ap (λ (p : ℕ × ℕ). p.1) q
+  same_distance s s' b a e x y = let q : b ≡ a = cc in ap (λ (p : ℕ × ℕ). p.1) q
 
   nearer : (c : Call) (w : ℕ) (r : Result Answer Refusal) (due : Option (ℕ × ℕ)) (s s' : S) (tb tb' : Table) (b a : ℕ × ℕ) → Effect places pair c w r s tb s' tb' → due ≡ pair s → pair s ≡ Some b → pair s' ≡ Some a
       → cond (a_due_step (turn w c r due)) 1 0 + a.1 ≤ b.1
