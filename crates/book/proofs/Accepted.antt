@@ -1,6 +1,6 @@
 -- What it takes for a look or an enter to be accepted.
-use Rattle.std.proofs.Common.{◌≡◌, ℕ, ◌<◌, Bool, true, false, not, ltb, leb, List, [], ◌∷◌, Some, None, Option, refl, arith}
-use Rattle.std.proofs.lemmas.Bool.{leb-false, not-false, false≢true}
+use Rattle.std.proofs.Common.{◌≡◌, ℕ, ◌<◌, Bool, true, false, not, ltb, leb, List, [], ◌∷◌, Some, None, Option, refl}
+use Rattle.std.proofs.lemmas.Bool.{leb-false, not-false}
 use Rattle.lock.specs.declared.place.Place.{Place}
 use Rattle.lock.specs.declared.place.Place.TheVariants.{Out, Waiting, Inside, Leaving}
 use Rattle.lock.specs.declared.refusal.Refusal.{Refusal}

@@ -1,6 +1,7 @@
 -- The table of a book is as the history says.
 use Rattle.std.proofs.Common.{◌≡◌, ℕ, ◌<◌, ◌≤◌, Bool, true, false, cond, eqb, List, [], ◌∷◌, ◌++◌, length, get_or, set, Some, None, Ok, Err, Option, Result, sym, refl, ap, ◌∙◌, subst, ⊎_elim, arith}
-use Rattle.std.proofs.lemmas.List.{length-set, take_more_set}
+use Rattle.std.proofs.lemmas.Grind.{get_or-set_at}
+use Rattle.std.proofs.lemmas.List.{length-set, take_more_set, get_or-set_other}
 use Rattle.std.proofs.lemmas.List.Sums.{sum_by_push}
 use Rattle.std.proofs.lemmas.Bool.{cases_eq, cases_lt, and_right, eq-eqb, ne_eqb, ltb-false}
 use Rattle.std.proofs.lemmas.Bool.Decides.{nat_tests}
@@ -13,7 +14,6 @@ use Rattle.lock.specs.declared.refusal.Refusal.{Refusal}
 use Rattle.lock.specs.declared.refusal.Refusal.TheVariants.{NoWorker}
 use Rattle.lock.specs.Rules.{Request, locking, unlocking, stepping, Leads, Obeys, Sound, place_at}
 use Rattle.lock.specs.Calls.{Outcome}
-use Rattle.lock.proofs.Labelled.{read_set}
 use Rattle.book.specs.declared.call.Call.{Call}
 use Rattle.book.specs.declared.call.Call.TheVariants.{Lock, Unlock, Step, Look, Enter}
 use Rattle.book.specs.declared.table.Record.{Record}
@@ -93,23 +93,19 @@ module _ (ps ps' : List Place) (tb : Table) (t : Turn) (h : History) where
 
 -- ## A turn that writes its caller's slip
 
-module _ (w v : ℕ) where
-  own : {A : Type 0} (x y : A) → v ≡ w → cond (eqb v w) x y ≡ x
-  own x y e = ap (λ b. cond b x y) (eq-eqb v w e)
-
-  other : {A : Type 0} (x y : A) → (v ≡ w → ⊥) → cond (eqb v w) x y ≡ y
-  other x y n = ap (λ b. cond b x y) (ne_eqb v w n)
-
 -- the slips after it
 slips_put : (xs : List (Option Slip)) (w : ℕ) (x : Option Slip) (h : History) → length xs ≡ 16 → w < 16 → ((v : ℕ) → get_or xs v None ≡ slip_of v h) → (v : ℕ) → get_or (set xs w x) v None ≡ cond (eqb v w) x (slip_of v h)
-slips_put xs w x h long lt k v = ap (λ (f : ℕ → Option Slip). f v) (read_set xs w x None (omega arith)) ∙ ap (λ s. cond (eqb v w) x s) (k v)
+slips_put xs w x h long lt k v = ⊎_elim
+    (λ (e : v ≡ w). rw (eq-eqb v w e) (get_or-set_at xs w v x None e (omega arith)))
+    (λ n. rw (ne_eqb v w n) (get_or-set_other xs w v x None n ∙ k v))
+    (cases_eq v w)
 
 -- every worker's slip is fresh where its caller's is, and the others' stay so
 fresh_put : (w : ℕ) (x : Option Slip) (f : ℕ → Option Slip) (p : ℕ → Place) (rs : List Record) (look : ℕ → Record) (y : ℕ → Record)
     → Fresh x (p w) rs (y w) → ((v : ℕ) → (v ≡ w → ⊥) → Fresh (f v) (p v) rs (look v)) → (v : ℕ) → Fresh (cond (eqb v w) x (f v)) (p v) rs (cond (eqb v w) (y v) (look v))
 fresh_put w x f p rs look y mine theirs v = ⊎_elim
-    (λ (e : v ≡ w). rw (own w v x (f v) e, own w v (y v) (look v) e) (let P : ℕ → Type 0 = λ u. Fresh x (p u) rs (y u) in subst P (sym e) mine))
-    (λ n. rw (other w v x (f v) n, other w v (y v) (look v) n) (theirs v n))
+    (λ (e : v ≡ w). rw (eq-eqb v w e) (let P : ℕ → Type 0 = λ u. Fresh x (p u) rs (y u) in subst P (sym e) mine))
+    (λ n. rw (ne_eqb v w n) (theirs v n))
     (cases_eq v w)
 
 -- ## Who stays inside
