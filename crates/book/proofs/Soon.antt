@@ -1,5 +1,5 @@
 -- Fewer due steps than the bound come before an entry.
-use Rattle.std.proofs.Common.{◌≡◌, ℕ, ◌+◌, ◌<◌, ◌≤◌, Bool, true, false, cond, ◌&&◌, eqb, List, [], ◌∷◌, ◌++◌, Some, None, count_by, Option, Result, sym, refl, ap, ◌∙◌, subst, ⊎_elim, arith}
+use Rattle.std.proofs.Common.{◌≡◌, ℕ, ◌+◌, ◌<◌, ◌≤◌, Bool, cond, ◌&&◌, eqb, List, [], ◌∷◌, ◌++◌, Some, None, count_by, Option, Result, sym, refl, ap, ◌∙◌, subst, ⊎_elim, arith}
 use mathlib.Core.Logic.{∥∥₁_elim}
 use mathlib.Core.HLevel.{⊥_prop}
 use Rattle.std.proofs.lemmas.List.Sums.{sum_by-cons, sum_by-append}
@@ -34,12 +34,10 @@ tally_append test w later h = sum_by-append (λ (x : Turn). cond (eqb w x.worker
 
 tally_le : (test : Turn → Bool) (w : ℕ) (h : History) → tally test w h ≤ count_by test h
 tally_le test w [] = omega arith
-tally_le test w (t ∷ h) = one_more (eqb w t.worker) (test t) _ _ _ _ (count_by_cons (λ x. eqb w x.worker && test x) t h) (count_by_cons test t h) (tally_le test w h)
-  where
-    one_more : (a b : Bool) (m n m' n' : ℕ) → m' ≡ cond (a && b) 1 0 + m → n' ≡ cond b 1 0 + n → m ≤ n → m' ≤ n'
-    one_more true b m n m' n' e f k = omega arith
-    one_more false true m n m' n' e f k = omega arith
-    one_more false false m n m' n' e f k = omega arith
+tally_le test w (t ∷ h) =
+    let a = count_by_cons (λ x. eqb w x.worker && test x) t h in
+    let b = count_by_cons test t h in
+    grind (arith, nat_tests, tally_le test w h)
 
 waiting_by : (p : Place) (l e u d : ℕ) → At p l e u d → e < l → p ≡ Waiting
 waiting_by Out l e u d a k = absurd (omega arith)

@@ -1,7 +1,8 @@
 -- What holds of each turn: the table of refusals, unlocks and looks.
 use Rattle.std.proofs.Common.{◌≡◌, ℕ, ◌-◌, ◌≤◌, Bool, true, false, ltb, ◌↔◌, List, ◌∷◌, length, Some, None, Ok, Err, Option, Result, sym, refl, ap, ◌∙◌, subst, inl, inr, ⊎_elim, arith}
 use Rattle.std.proofs.lemmas.List.{get_or_past, length-take-le}
-use Rattle.std.proofs.lemmas.Bool.{cases_lt, lt-leb, le-leb, ltb-true, ltb-false}
+use Rattle.std.proofs.lemmas.Bool.{cases_lt, lt-leb, le-leb}
+use Rattle.std.proofs.lemmas.Bool.Decides.{nat_tests}
 use Rattle.lock.specs.declared.place.Place.{Place}
 use Rattle.lock.specs.declared.place.Place.TheVariants.{Out, Waiting, Inside, Leaving}
 use Rattle.lock.specs.declared.answer.Answer.{Answer}
@@ -93,11 +94,7 @@ look_answer None tb tb' a b x r k y = let z : r ≡ Ok b = ap (λ (o : Outcome T
 look_answer (Some f) tb tb' a b x r k y = let z : r ≡ Err f = ap (λ (o : Outcome Table). o.1) k in cc
 
 found_there : (n : ℕ) (a : Answer) → a ≡ found_answer (ltb 0 n) → (a ≡ Found) ↔ (1 ≤ n)
-found_there n a e = go (ltb 0 n) refl e
-  where
-    go : (b : Bool) → ltb 0 n ≡ b → a ≡ found_answer b → (a ≡ Found) ↔ (1 ≤ n)
-    go true t k = (λ x. ltb-true 0 n t, λ y. k)
-    go false t k = (λ x. cc, λ y. absurd (omega (arith, ltb-false 0 n t)))
+found_there n a e = (λ x. grind (arith, nat_tests), λ y. grind (arith, nat_tests))
 
 -- ## Along a life
 
