@@ -14,6 +14,7 @@ const MOST_GRAMS: u32 = 1_000_000;
 
 impl<L: Lock> Book<L> {
     // A new book over a new lock.
+    #[tactic(auto, using(crate::specs::Life::made))]
     pub fn new() -> Book<L>
         ensures { Life L.places L.pair [] result }
     {
