@@ -83,16 +83,13 @@ impl Table {
         ensures after { self.new ≡ with_slip self.old w (Some (slip_now self.old chest grams)) }
     {
         let found = self.has(chest);
-        let weight = self.weight;
-        self.put(
-            w,
-            Some(Slip {
-                chest,
-                grams,
-                found,
-                weight,
-            }),
-        );
+        let slip = Slip {
+            chest,
+            grams,
+            found,
+            weight: self.weight,
+        };
+        self.put(w, Some(slip));
         if found { Answer::Found } else { Answer::Done }
     }
 
@@ -105,15 +102,14 @@ impl Table {
         if slip.found {
             return Err(Refusal::Known);
         }
-        let at = self.len;
-        if at >= 256 {
+        if self.len >= 256 {
             return Err(Refusal::BookFull);
         }
-        self.records[at] = Record {
+        self.records[self.len] = Record {
             chest: slip.chest,
             grams: slip.grams,
         };
-        self.len = at + 1;
+        self.len += 1;
         self.weight = slip.weight + slip.grams;
         self.put(w, None);
         Ok(Answer::Done)
