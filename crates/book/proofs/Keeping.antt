@@ -1,5 +1,5 @@
 -- The table of a book is as the history says.
-use Rattle.std.proofs.Common.{◌≡◌, ℕ, ◌<◌, ◌≤◌, Bool, true, false, cond, eqb, List, [], ◌∷◌, ◌++◌, length, get_or, set, Some, None, Ok, Err, Option, Result, sym, refl, ap, ◌∙◌, subst, ⊎_elim, arith}
+use Rattle.std.proofs.Common.{◌≡◌, ◌≢◌, ℕ, ◌<◌, ◌≤◌, Bool, true, false, cond, eqb, List, [], ◌∷◌, ◌++◌, length, get_or, set, Some, None, Ok, Err, Option, Result, sym, refl, ap, ◌∙◌, subst, ⊎_elim, arith}
 use Rattle.std.proofs.lemmas.Grind.{get_or-set_at}
 use Rattle.std.proofs.lemmas.List.{length-set, take_more_set, get_or-set_other}
 use Rattle.std.proofs.lemmas.List.Sums.{sum_by_push}
@@ -102,7 +102,7 @@ slips_put xs w x h long lt k v = ⊎_elim
 
 -- every worker's slip is fresh where its caller's is, and the others' stay so
 fresh_put : (w : ℕ) (x : Option Slip) (f : ℕ → Option Slip) (p : ℕ → Place) (rs : List Record) (look : ℕ → Record) (y : ℕ → Record)
-    → Fresh x (p w) rs (y w) → ((v : ℕ) → (v ≡ w → ⊥) → Fresh (f v) (p v) rs (look v)) → (v : ℕ) → Fresh (cond (eqb v w) x (f v)) (p v) rs (cond (eqb v w) (y v) (look v))
+    → Fresh x (p w) rs (y w) → ((v : ℕ) → v ≢ w → Fresh (f v) (p v) rs (look v)) → (v : ℕ) → Fresh (cond (eqb v w) x (f v)) (p v) rs (cond (eqb v w) (y v) (look v))
 fresh_put w x f p rs look y mine theirs v = ⊎_elim
     (λ (e : v ≡ w). rw (eq-eqb v w e) (let P : ℕ → Type 0 = λ u. Fresh x (p u) rs (y u) in subst P (sym e) mine))
     (λ n. rw (ne_eqb v w n) (theirs v n))
@@ -186,7 +186,7 @@ module _ (ps : List Place) (tb : Table) (w : ℕ) (due : Option (ℕ × ℕ)) (h
       not_yet = let k = ltb-false 0 (copies x.chest (stock_of h)) (sym was_fresh.2 ∙ new) in omega arith
 
       -- nobody else has a slip
-      theirs : (v : ℕ) → (v ≡ w → ⊥) → (o : Option Slip) (rs rs' : List Record) (look : Record) → Fresh o (place_at ps v) rs look → Fresh o (place_at ps v) rs' look
+      theirs : (v : ℕ) → v ≢ w → (o : Option Slip) (rs rs' : List Record) (look : Record) → Fresh o (place_at ps v) rs look → Fresh o (place_at ps v) rs' look
       theirs v n None rs rs' look f = tt
       theirs v n (Some y) rs rs' look f = absurd (n (alone v w f.0 inside))
 
