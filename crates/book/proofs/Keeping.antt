@@ -3,7 +3,7 @@ use Rattle.std.proofs.Common.{◌≡◌, ◌≢◌, ℕ, ◌<◌, ◌≤◌, Boo
 use Rattle.std.proofs.lemmas.Grind.{get_or-set_at}
 use Rattle.std.proofs.lemmas.List.{length-set, take_more_set, get_or-set_other}
 use Rattle.std.proofs.lemmas.List.Sums.{sum_by_push}
-use Rattle.std.proofs.lemmas.Bool.{cases_eq, cases_lt, and_right, eq-eqb, ne_eqb, ltb-false}
+use Rattle.std.proofs.lemmas.Bool.{cases_eq, cases_lt, eq-eqb, ne_eqb, ltb-false}
 use Rattle.std.proofs.lemmas.Bool.Decides.{nat_tests}
 use Rattle.lock.proofs.Small.{all_same}
 use Rattle.lock.specs.declared.place.Place.{Place}
@@ -58,24 +58,20 @@ record Still (t : Turn) (h : History) : Type 0 where
   look : (w : ℕ) → last_look w (t ∷ h) ≡ last_look w h
   stock : stock_of (t ∷ h) ≡ stock_of h
 
-cond_same : {A : Type 0} (b : Bool) (x : A) → cond b x x ≡ x
-cond_same true x = refl
-cond_same false x = refl
-
 module _ (w : ℕ) (due : Option (ℕ × ℕ)) (h : History) where
   refused_still : (c : Call) (e : Refusal) → Still (turn w c (Err e) due) h
   refused_still c e = record {
-    slip = λ v. cond_same (eqb v w) (slip_of v h);
-    look = λ v. cond_same (eqb v w) (last_look v h);
-    stock = ap (λ b. cond b (stock_of h ++ last_look w h ∷ []) (stock_of h)) (and_right _ false refl);
+    slip = λ v. grind (arith, nat_tests);
+    look = λ v. grind (arith, nat_tests);
+    stock = grind (arith, nat_tests);
   }
 
   lock_still : (r : Result Answer Refusal) → Still (turn w Lock r due) h
-  lock_still (Ok a) = record { slip = λ v. cond_same (eqb v w) (slip_of v h); look = λ v. cond_same (eqb v w) (last_look v h); stock = refl }
+  lock_still (Ok a) = record { slip = λ v. grind (arith, nat_tests); look = λ v. grind (arith, nat_tests); stock = refl }
   lock_still (Err e) = refused_still Lock e
 
   step_still : (r : Result Answer Refusal) → Still (turn w Step r due) h
-  step_still (Ok a) = record { slip = λ v. cond_same (eqb v w) (slip_of v h); look = λ v. cond_same (eqb v w) (last_look v h); stock = refl }
+  step_still (Ok a) = record { slip = λ v. grind (arith, nat_tests); look = λ v. grind (arith, nat_tests); stock = refl }
   step_still (Err e) = refused_still Step e
 
 module _ (ps ps' : List Place) (tb : Table) (t : Turn) (h : History) where
@@ -199,10 +195,10 @@ module _ (ps : List Place) (tb : Table) (w : ℕ) (due : Option (ℕ × ℕ)) (h
         hands = length-set tb.slips w None ∙ was.hands;
         slips = slips_put tb.slips w None h was.hands known was.slips;
         fresh = fresh_put w None (λ v. slip_of v h) (place_at ps) _ (λ v. last_look v h) (λ v. last_look v h) tt (λ v n. theirs v n _ _ _ _ (was.fresh v));
-        once = λ c. rw now_stock (let p = sum_by_push (λ (r : Record). cond (eqb r.chest c) 1 0) (stock_of h) added in ⊎_elim
-            (λ (e : x.chest ≡ c). let z : copies c (stock_of h) ≡ 0 = rw e at not_yet in grind (arith, nat_tests))
-            (λ n. let o = was.once c in grind (arith, nat_tests))
-            (cases_eq x.chest c));
+        once = λ c.
+            let p = sum_by_push (λ (r : Record). cond (eqb r.chest c) 1 0) (stock_of h) added in
+            let o = was.once c in
+            rw now_stock (grind (arith, nat_tests, not_yet));
       }
 
   look_holding : (c g : ℕ) (e : Option Refusal) → cause (Look c g) w (place_at ps w) (slip_at tb w) tb.len ≡ e → After (Look c g) (refused_or e tb (with_slip tb w (Some (slip_now tb c g)), Ok (found_answer (holds (records_of tb) c))))

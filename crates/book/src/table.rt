@@ -51,7 +51,7 @@ impl Table {
     }
 
     // Whether one of the records is of the chest.
-    pub(crate) fn has(&self, chest: u32) -> bool
+    fn has(&self, chest: u32) -> bool
         ensures { result ≡ holds (records_of self.now) chest }
     {
         self.records
