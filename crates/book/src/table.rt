@@ -1,7 +1,7 @@
 // The plain table of a book: its records, their weight and the slips.
-ghost use Rattle.std.specs.Prelude.{◌≡◌, ◌+◌, ◌^◌, ◌<◌, ◌≤◌, Some};
+ghost use Rattle.std.specs.Prelude.{◌≡◌, ◌<◌, ◌≤◌, Some};
 ghost use Rattle.lock.specs.declared.place.Place.TheVariants.{Inside};
-ghost use Rattle.book.specs.Stock.{new_table, records_of, holds, slip_at, with_slip, slip_now, found_answer, entered, slip_weight, slip_grams};
+ghost use Rattle.book.specs.Stock.{new_table, records_of, holds, slip_at, with_slip, slip_now, found_answer, entered, Safe};
 
 use lock::{Answer, Refusal};
 
@@ -95,7 +95,7 @@ impl Table {
 
     // Appends what the slip of a worker inside says.
     pub(crate) fn enter(&mut self, w: u8) -> Result<Answer, Refusal>
-        requires { slip_weight (slip_at self.old w) + slip_grams (slip_at self.old w) < 2 ^ 32 }
+        requires { Safe self.old }
         ensures { w < 16 → (self.new, result) ≡ entered Inside w self.old }
     {
         let slip = self.slip(w).ok_or(Refusal::NoSlip)?;
