@@ -1,8 +1,9 @@
 -- The table of a book is as the history says.
-use Rattle.std.proofs.Common.{◌≡◌, ℕ, ◌<◌, ◌≤◌, Bool, true, false, cond, eqb, List, [], ◌∷◌, ◌++◌, length, get_or, set, Some, None, Ok, Err, Option, Result, sym, refl, ap, ◌∙◌, subst, ⊎_elim, arith}
-use Rattle.std.proofs.lemmas.List.{length-set, take_more_set}
+use Rattle.std.proofs.Common.{◌≡◌, ◌≢◌, ℕ, ◌<◌, ◌≤◌, Bool, true, false, cond, eqb, List, [], ◌∷◌, ◌++◌, length, get_or, set, Some, None, Ok, Err, Option, Result, sym, refl, ap, ◌∙◌, subst, ⊎_elim, arith}
+use Rattle.std.proofs.lemmas.Grind.{get_or-set_at}
+use Rattle.std.proofs.lemmas.List.{length-set, take_more_set, get_or-set_other}
 use Rattle.std.proofs.lemmas.List.Sums.{sum_by_push}
-use Rattle.std.proofs.lemmas.Bool.{cases_eq, cases_lt, and_right, eq-eqb, ne_eqb, ltb-false}
+use Rattle.std.proofs.lemmas.Bool.{cases_eq, cases_lt, eq-eqb, ne_eqb, ltb-false}
 use Rattle.std.proofs.lemmas.Bool.Decides.{nat_tests}
 use Rattle.lock.proofs.Small.{all_same}
 use Rattle.lock.specs.declared.place.Place.{Place}
@@ -13,7 +14,6 @@ use Rattle.lock.specs.declared.refusal.Refusal.{Refusal}
 use Rattle.lock.specs.declared.refusal.Refusal.TheVariants.{NoWorker}
 use Rattle.lock.specs.Rules.{Request, locking, unlocking, stepping, Leads, Obeys, Sound, place_at}
 use Rattle.lock.specs.Calls.{Outcome}
-use Rattle.lock.proofs.Labelled.{read_set}
 use Rattle.book.specs.declared.call.Call.{Call}
 use Rattle.book.specs.declared.call.Call.TheVariants.{Lock, Unlock, Step, Look, Enter}
 use Rattle.book.specs.declared.table.Record.{Record}
@@ -58,24 +58,20 @@ record Still (t : Turn) (h : History) : Type 0 where
   look : (w : ℕ) → last_look w (t ∷ h) ≡ last_look w h
   stock : stock_of (t ∷ h) ≡ stock_of h
 
-cond_same : {A : Type 0} (b : Bool) (x : A) → cond b x x ≡ x
-cond_same true x = refl
-cond_same false x = refl
-
 module _ (w : ℕ) (due : Option (ℕ × ℕ)) (h : History) where
   refused_still : (c : Call) (e : Refusal) → Still (turn w c (Err e) due) h
   refused_still c e = record {
-    slip = λ v. cond_same (eqb v w) (slip_of v h);
-    look = λ v. cond_same (eqb v w) (last_look v h);
-    stock = ap (λ b. cond b (stock_of h ++ last_look w h ∷ []) (stock_of h)) (and_right _ false refl);
+    slip = λ v. grind (arith, nat_tests);
+    look = λ v. grind (arith, nat_tests);
+    stock = grind (arith, nat_tests);
   }
 
   lock_still : (r : Result Answer Refusal) → Still (turn w Lock r due) h
-  lock_still (Ok a) = record { slip = λ v. cond_same (eqb v w) (slip_of v h); look = λ v. cond_same (eqb v w) (last_look v h); stock = refl }
+  lock_still (Ok a) = record { slip = λ v. grind (arith, nat_tests); look = λ v. grind (arith, nat_tests); stock = refl }
   lock_still (Err e) = refused_still Lock e
 
   step_still : (r : Result Answer Refusal) → Still (turn w Step r due) h
-  step_still (Ok a) = record { slip = λ v. cond_same (eqb v w) (slip_of v h); look = λ v. cond_same (eqb v w) (last_look v h); stock = refl }
+  step_still (Ok a) = record { slip = λ v. grind (arith, nat_tests); look = λ v. grind (arith, nat_tests); stock = refl }
   step_still (Err e) = refused_still Step e
 
 module _ (ps ps' : List Place) (tb : Table) (t : Turn) (h : History) where
@@ -93,23 +89,19 @@ module _ (ps ps' : List Place) (tb : Table) (t : Turn) (h : History) where
 
 -- ## A turn that writes its caller's slip
 
-module _ (w v : ℕ) where
-  own : {A : Type 0} (x y : A) → v ≡ w → cond (eqb v w) x y ≡ x
-  own x y e = ap (λ b. cond b x y) (eq-eqb v w e)
-
-  other : {A : Type 0} (x y : A) → (v ≡ w → ⊥) → cond (eqb v w) x y ≡ y
-  other x y n = ap (λ b. cond b x y) (ne_eqb v w n)
-
 -- the slips after it
 slips_put : (xs : List (Option Slip)) (w : ℕ) (x : Option Slip) (h : History) → length xs ≡ 16 → w < 16 → ((v : ℕ) → get_or xs v None ≡ slip_of v h) → (v : ℕ) → get_or (set xs w x) v None ≡ cond (eqb v w) x (slip_of v h)
-slips_put xs w x h long lt k v = ap (λ (f : ℕ → Option Slip). f v) (read_set xs w x None (omega arith)) ∙ ap (λ s. cond (eqb v w) x s) (k v)
+slips_put xs w x h long lt k v = ⊎_elim
+    (λ (e : v ≡ w). rw (eq-eqb v w e) (get_or-set_at xs w v x None e (omega arith)))
+    (λ n. rw (ne_eqb v w n) (get_or-set_other xs w v x None n ∙ k v))
+    (cases_eq v w)
 
 -- every worker's slip is fresh where its caller's is, and the others' stay so
 fresh_put : (w : ℕ) (x : Option Slip) (f : ℕ → Option Slip) (p : ℕ → Place) (rs : List Record) (look : ℕ → Record) (y : ℕ → Record)
-    → Fresh x (p w) rs (y w) → ((v : ℕ) → (v ≡ w → ⊥) → Fresh (f v) (p v) rs (look v)) → (v : ℕ) → Fresh (cond (eqb v w) x (f v)) (p v) rs (cond (eqb v w) (y v) (look v))
+    → Fresh x (p w) rs (y w) → ((v : ℕ) → v ≢ w → Fresh (f v) (p v) rs (look v)) → (v : ℕ) → Fresh (cond (eqb v w) x (f v)) (p v) rs (cond (eqb v w) (y v) (look v))
 fresh_put w x f p rs look y mine theirs v = ⊎_elim
-    (λ (e : v ≡ w). rw (own w v x (f v) e, own w v (y v) (look v) e) (let P : ℕ → Type 0 = λ u. Fresh x (p u) rs (y u) in subst P (sym e) mine))
-    (λ n. rw (other w v x (f v) n, other w v (y v) (look v) n) (theirs v n))
+    (λ (e : v ≡ w). rw (eq-eqb v w e) (let P : ℕ → Type 0 = λ u. Fresh x (p u) rs (y u) in subst P (sym e) mine))
+    (λ n. rw (ne_eqb v w n) (theirs v n))
     (cases_eq v w)
 
 -- ## Who stays inside
@@ -121,9 +113,6 @@ module _ {S : Type 0} (places : S → List Place) (pair : S → Option (ℕ × �
       (λ l. let P : Place → Type 0 = λ p. Leads q p r (place_at (places s') w) in ap (place_at (places s')) e ∙ keeps _ (subst P (ap (place_at (places s)) (sym e) ∙ i) (k.caller l)))
       (λ l. ap (λ z. place_at (places z) v) (k.refused NoWorker (k.unknown l)) ∙ i) (cases_lt w 16))
       (λ n. k.others v n ∙ i) (cases_eq v w)
-
-  ok_err : (a : Answer) (e : Refusal) → Ok a ≡ Err e → ⊥
-  ok_err a e k = let z : ◌≡◌ {A = ℕ} 0 1 = cc in omega arith
 
   -- ## An unlock
 
@@ -141,7 +130,7 @@ module _ {S : Type 0} (places : S → List Place) (pair : S → Option (ℕ × �
   }
     where
       known : w < 16
-      known = ⊎_elim (λ l. l) (λ l. absurd (ok_err a NoWorker (k.unknown l))) (cases_lt w 16)
+      known = ⊎_elim (λ l. l) (λ l. let said = k.unknown l in cc) (cases_lt w 16)
   holding_unlocked w due (Err x) h s s' tb k was = holding_still (places s) (places s') tb (turn w Unlock (Err x) due) h (refused_still w due h Unlock x) (λ v i. ap (λ z. place_at (places z) v) (k.refused x refl) ∙ i) was
 
 -- ## A look
@@ -193,7 +182,7 @@ module _ (ps : List Place) (tb : Table) (w : ℕ) (due : Option (ℕ × ℕ)) (h
       not_yet = let k = ltb-false 0 (copies x.chest (stock_of h)) (sym was_fresh.2 ∙ new) in omega arith
 
       -- nobody else has a slip
-      theirs : (v : ℕ) → (v ≡ w → ⊥) → (o : Option Slip) (rs rs' : List Record) (look : Record) → Fresh o (place_at ps v) rs look → Fresh o (place_at ps v) rs' look
+      theirs : (v : ℕ) → v ≢ w → (o : Option Slip) (rs rs' : List Record) (look : Record) → Fresh o (place_at ps v) rs look → Fresh o (place_at ps v) rs' look
       theirs v n None rs rs' look f = tt
       theirs v n (Some y) rs rs' look f = absurd (n (alone v w f.0 inside))
 
@@ -206,10 +195,10 @@ module _ (ps : List Place) (tb : Table) (w : ℕ) (due : Option (ℕ × ℕ)) (h
         hands = length-set tb.slips w None ∙ was.hands;
         slips = slips_put tb.slips w None h was.hands known was.slips;
         fresh = fresh_put w None (λ v. slip_of v h) (place_at ps) _ (λ v. last_look v h) (λ v. last_look v h) tt (λ v n. theirs v n _ _ _ _ (was.fresh v));
-        once = λ c. rw now_stock (let p = sum_by_push (λ (r : Record). cond (eqb r.chest c) 1 0) (stock_of h) added in ⊎_elim
-            (λ (e : x.chest ≡ c). let z : copies c (stock_of h) ≡ 0 = rw e at not_yet in grind (arith, nat_tests))
-            (λ n. let o = was.once c in grind (arith, nat_tests))
-            (cases_eq x.chest c));
+        once = λ c.
+            let p = sum_by_push (λ (r : Record). cond (eqb r.chest c) 1 0) (stock_of h) added in
+            let o = was.once c in
+            rw now_stock (grind (arith, nat_tests, not_yet));
       }
 
   look_holding : (c g : ℕ) (e : Option Refusal) → cause (Look c g) w (place_at ps w) (slip_at tb w) tb.len ≡ e → After (Look c g) (refused_or e tb (with_slip tb w (Some (slip_now tb c g)), Ok (found_answer (holds (records_of tb) c))))

@@ -1,5 +1,6 @@
 -- The weight of a table does not wrap, whatever the calls do to it.
-use Rattle.std.proofs.Common.{◌≡◌, ℕ, zero, suc, ◌*◌, ◌<◌, ◌≤◌, List, [], ◌∷◌, get_or, set, Some, None, Option, Result, sym, refl, subst, arith}
+use Rattle.std.proofs.Common.{◌≡◌, ℕ, ◌*◌, ◌<◌, ◌≤◌, List, get_or, set, Some, None, Option, Result, sym, refl, subst, arith}
+use Rattle.std.proofs.lemmas.Grind.{common_steps}
 use Rattle.lock.specs.declared.place.Place.TheVariants.{Inside}
 use Rattle.lock.specs.declared.answer.Answer.{Answer}
 use Rattle.lock.specs.declared.refusal.Refusal.{Refusal}
@@ -8,25 +9,12 @@ use Rattle.book.specs.declared.call.Call.TheVariants.{Enter}
 use Rattle.book.specs.declared.table.Slip.{Slip}
 use Rattle.book.specs.declared.table.Table.{Table}
 use Rattle.book.specs.Causes.{cause}
-use Rattle.book.specs.Stock.{slip_at, with_slip, recorded, refused_or, entered, slip_weight, slip_grams}
+use Rattle.book.specs.Stock.{slip_at, with_slip, recorded, refused_or, entered, slip_weight, slip_grams, Safe}
 use Rattle.book.proofs.Accepted.{enter_inside, enter_accepted}
-
--- what the ghost fields of a book say of its table
-abbrev pub Safe : Table → Type 0
-Safe tb = record {
-  within : tb.len ≤ 256;
-  light : tb.weight ≤ tb.len * 1000000;
-  noted : (w : ℕ) → slip_weight (slip_at tb w) ≤ tb.len * 1000000;
-  lifted : (w : ℕ) → slip_grams (slip_at tb w) ≤ 1000000;
-}
 
 -- a bound on every slip holds of one that is written, too
 put_below : (f : Option Slip → ℕ) (b : ℕ) (x : Option Slip) → f x ≤ b → (xs : List (Option Slip)) (i : ℕ) → ((w : ℕ) → f (get_or xs w None) ≤ b) → (w : ℕ) → f (get_or (set xs i x) w None) ≤ b
-put_below f b x le [] i h w = h w
-put_below f b x le (y ∷ xs) zero h zero = le
-put_below f b x le (y ∷ xs) zero h (suc w) = h (suc w)
-put_below f b x le (y ∷ xs) (suc i) h zero = h zero
-put_below f b x le (y ∷ xs) (suc i) h (suc w) = put_below f b x le xs i (λ v. h (suc v)) w
+put_below f b x le xs i h w = let k = h w in grind (arith, common_steps)
 
 pub safe_put : (tb tb' : Table) (w : ℕ) (s : Option Slip) → tb' ≡ with_slip tb w s → slip_weight s ≤ tb.len * 1000000 → slip_grams s ≤ 1000000 → Safe tb → Safe tb'
 safe_put tb tb' w s e a b k = rw e (record {

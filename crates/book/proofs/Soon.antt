@@ -1,5 +1,5 @@
 -- Fewer due steps than the bound come before an entry.
-use Rattle.std.proofs.Common.{◌≡◌, ℕ, ◌+◌, ◌<◌, ◌≤◌, Bool, true, false, cond, ◌&&◌, eqb, List, [], ◌∷◌, ◌++◌, Some, None, count_by, Option, Result, sym, refl, ap, ◌∙◌, subst, ⊎_elim, arith}
+use Rattle.std.proofs.Common.{◌≡◌, ◌≢◌, ℕ, ◌+◌, ◌<◌, ◌≤◌, Bool, cond, ◌&&◌, eqb, List, [], ◌∷◌, ◌++◌, Some, None, count_by, Option, Result, sym, refl, ap, ◌∙◌, subst, ⊎_elim, arith}
 use mathlib.Core.Logic.{∥∥₁_elim}
 use mathlib.Core.HLevel.{⊥_prop}
 use Rattle.std.proofs.lemmas.List.Sums.{sum_by-cons, sum_by-append}
@@ -8,7 +8,7 @@ use Rattle.lock.specs.declared.place.Place.{Place}
 use Rattle.lock.specs.declared.place.Place.TheVariants.{Out, Waiting, Inside, Leaving}
 use Rattle.lock.specs.declared.answer.Answer.{Answer}
 use Rattle.lock.specs.declared.refusal.Refusal.{Refusal}
-use Rattle.lock.specs.Rules.{Fits, Sound, place_at}
+use Rattle.lock.specs.Rules.{Nobody, Fits, Sound, place_at}
 use Rattle.book.specs.declared.call.Call.{Call}
 use Rattle.book.specs.declared.call.Call.TheVariants.{Lock, Unlock, Step, Look, Enter}
 use Rattle.book.specs.declared.table.Table.{Table}
@@ -34,12 +34,10 @@ tally_append test w later h = sum_by-append (λ (x : Turn). cond (eqb w x.worker
 
 tally_le : (test : Turn → Bool) (w : ℕ) (h : History) → tally test w h ≤ count_by test h
 tally_le test w [] = omega arith
-tally_le test w (t ∷ h) = one_more (eqb w t.worker) (test t) _ _ _ _ (count_by_cons (λ x. eqb w x.worker && test x) t h) (count_by_cons test t h) (tally_le test w h)
-  where
-    one_more : (a b : Bool) (m n m' n' : ℕ) → m' ≡ cond (a && b) 1 0 + m → n' ≡ cond b 1 0 + n → m ≤ n → m' ≤ n'
-    one_more true b m n m' n' e f k = omega arith
-    one_more false true m n m' n' e f k = omega arith
-    one_more false false m n m' n' e f k = omega arith
+tally_le test w (t ∷ h) =
+    let a = count_by_cons (λ x. eqb w x.worker && test x) t h in
+    let b = count_by_cons test t h in
+    grind (arith, nat_tests, tally_le test w h)
 
 waiting_by : (p : Place) (l e u d : ℕ) → At p l e u d → e < l → p ≡ Waiting
 waiting_by Out l e u d a k = absurd (omega arith)
@@ -50,13 +48,13 @@ waiting_by Leaving l e u d a k = absurd (omega arith)
 -- ## Somebody is due
 
 -- where somebody waits and nobody is inside
-somebody_due : (bound : ℕ) (ps : List Place) → ((w : ℕ) → place_at ps w ≡ Inside → ⊥) → (v : ℕ) → place_at ps v ≡ Waiting → (o : Option (ℕ × ℕ)) → Fits bound ps o → (d : ℕ × ℕ) × (o ≡ Some d) × (1 ≤ d.1) × (d.1 ≤ bound)
+somebody_due : (bound : ℕ) (ps : List Place) → Nobody ps Inside → (v : ℕ) → place_at ps v ≡ Waiting → (o : Option (ℕ × ℕ)) → Fits bound ps o → (d : ℕ × ℕ) × (o ≡ Some d) × (1 ≤ d.1) × (d.1 ≤ bound)
 somebody_due bound ps free v waits None f = absurd (∥∥₁_elim f ⊥_prop (⊎_elim (λ k. ∥∥₁_elim k ⊥_prop (λ i. free i.0 i.1)) (λ n. n v waits)))
 somebody_due bound ps free v waits (Some d) f = (d, refl, f.least, f.most)
 
 module _ {S : Type 0} (places : S → List Place) (pair : S → Option (ℕ × ℕ)) where
   same_distance : (s s' : S) (b a : ℕ × ℕ) → s' ≡ s → pair s ≡ Some b → pair s' ≡ Some a → b.1 ≡ a.1
-  same_distance s s' b a e x y = let z : Some b ≡ Some a = sym x ∙ (ap pair (sym e) ∙ y) in let q : b ≡ a = cc in ap (λ (p : ℕ × ℕ). p.1) q
+  same_distance s s' b a e x y = let q : b ≡ a = cc in ap (λ (p : ℕ × ℕ). p.1) q
 
   nearer : (c : Call) (w : ℕ) (r : Result Answer Refusal) (due : Option (ℕ × ℕ)) (s s' : S) (tb tb' : Table) (b a : ℕ × ℕ) → Effect places pair c w r s tb s' tb' → due ≡ pair s → pair s ≡ Some b → pair s' ≡ Some a
       → cond (a_due_step (turn w c r due)) 1 0 + a.1 ≤ b.1
@@ -69,7 +67,7 @@ module _ {S : Type 0} (places : S → List Place) (pair : S → Option (ℕ × �
 -- ## From a moment when nobody is inside and v waits
 
 module _ {S : Type 0} (places : S → List Place) (pair : S → Option (ℕ × ℕ)) (bound : ℕ) (sound : (s : S) → Sound bound (places s) (pair s)) (h : History)
-    (free : (w : ℕ) → place_of w h ≡ Inside → ⊥) (v : ℕ) (waits : place_of v h ≡ Waiting) where
+    (free : (w : ℕ) → place_of w h ≢ Inside) (v : ℕ) (waits : place_of v h ≡ Waiting) where
   due_now : (during : History) → count_by an_entry during ≡ 0 → {b : Book S} → Life places pair (during ++ h) b → (d : ℕ × ℕ) × (pair b.lock ≡ Some d) × (1 ≤ d.1) × (d.1 ≤ bound)
   due_now during none {b} life = somebody_due bound (places b.lock) still_free v still_waits (pair b.lock) (sound b.lock).fits
     where
@@ -82,7 +80,7 @@ module _ {S : Type 0} (places : S → List Place) (pair : S → Option (ℕ × �
       entries : (w : ℕ) → tally an_entry w (during ++ h) ≡ tally an_entry w h
       entries w = omega (arith, tally_append an_entry w during h, tally_le an_entry w during)
 
-      still_free : (w : ℕ) → place_at (places b.lock) w ≡ Inside → ⊥
+      still_free : Nobody (places b.lock) Inside
       still_free w i =
           let P : Place → Type 0 = λ p. Stands p w (during ++ h) in
           let at : Stands Inside w (during ++ h) = subst P i (stands places pair life w) in

@@ -1,5 +1,6 @@
 -- The lock's places are those that the counts of the history give.
-use Rattle.std.proofs.Common.{◌≡◌, ℕ, ◌+◌, ◌-◌, Bool, false, cond, ◌&&◌, eqb, ltb, List, ◌∷◌, Ok, Err, Option, Result, sym, refl, ap, ◌∙◌, subst, ⊎_elim, arith}
+use Rattle.std.proofs.Common.{◌≡◌, ◌≢◌, ℕ, ◌+◌, ◌-◌, Bool, false, cond, ◌&&◌, eqb, ltb, List, ◌∷◌, Ok, Err, Option, Result, sym, refl, ap, ◌∙◌, subst, ⊎_elim, arith}
+use native.Mathlib.Nat.{zero-add}
 use Rattle.std.proofs.lemmas.List.Sums.{sum_by-cons}
 use Rattle.std.proofs.lemmas.Bool.{cases_eq, cases_lt, and_right, eq-eqb, ne_eqb}
 use Rattle.std.proofs.lemmas.Bool.Decides.{nat_tests}
@@ -48,25 +49,19 @@ module _ (test : Turn → Bool) (w : ℕ) (t : Turn) (h : History) where
   pub tally_own : w ≡ t.worker → tally test w (t ∷ h) ≡ tick test t + tally test w h
   tally_own e = sum_by-cons (λ (x : Turn). cond (eqb w x.worker && test x) 1 0) t h ∙ ap (λ b. cond (b && test t) 1 0 + tally test w h) (eq-eqb w t.worker e)
 
-  pub tally_other : (w ≡ t.worker → ⊥) → tally test w (t ∷ h) ≡ tally test w h
+  pub tally_other : w ≢ t.worker → tally test w (t ∷ h) ≡ tally test w h
   tally_other n = sum_by-cons (λ (x : Turn). cond (eqb w x.worker && test x) 1 0) t h ∙ (ap (λ b. cond (b && test t) 1 0 + tally test w h) (ne_eqb w t.worker n) ∙ omega arith)
-
-same_at : (p : Place) (l e u d l' e' u' d' : ℕ) → l' ≡ l → e' ≡ e → u' ≡ u → d' ≡ d → At p l e u d → At p l' e' u' d'
-same_at Out l e u d l' e' u' d' a b c f s = (omega arith, omega arith, omega arith)
-same_at Waiting l e u d l' e' u' d' a b c f s = (omega arith, omega arith, omega arith)
-same_at Inside l e u d l' e' u' d' a b c f s = (omega arith, omega arith, omega arith)
-same_at Leaving l e u d l' e' u' d' a b c f s = (omega arith, omega arith, omega arith)
 
 module _ (p : Place) (w : ℕ) (t : Turn) (h : History) where
   own_stands : w ≡ t.worker → At p (tick a_lock t + tally a_lock w h) (tick an_entry t + tally an_entry w h) (tick an_unlock t + tally an_unlock w h) (tick a_departure t + tally a_departure w h) → Stands p w (t ∷ h)
-  own_stands e = same_at p _ _ _ _ _ _ _ _ (tally_own a_lock w t h e) (tally_own an_entry w t h e) (tally_own an_unlock w t h e) (tally_own a_departure w t h e)
+  own_stands e s = rw (tally_own a_lock w t h e, tally_own an_entry w t h e, tally_own an_unlock w t h e, tally_own a_departure w t h e) s
 
-  other_stands : (w ≡ t.worker → ⊥) → Stands p w h → Stands p w (t ∷ h)
-  other_stands n = same_at p _ _ _ _ _ _ _ _ (tally_other a_lock w t h n) (tally_other an_entry w t h n) (tally_other an_unlock w t h n) (tally_other a_departure w t h n)
+  other_stands : w ≢ t.worker → Stands p w h → Stands p w (t ∷ h)
+  other_stands n s = rw (tally_other a_lock w t h n, tally_other an_entry w t h n, tally_other an_unlock w t h n, tally_other a_departure w t h n) s
 
   -- a turn that counts for nothing
   quiet_stands : tick a_lock t ≡ 0 → tick an_entry t ≡ 0 → tick an_unlock t ≡ 0 → tick a_departure t ≡ 0 → Stands p w h → Stands p w (t ∷ h)
-  quiet_stands a b c d s = ⊎_elim (λ e. own_stands e (same_at p _ _ _ _ _ _ _ _ (omega arith) (omega arith) (omega arith) (omega arith) s)) (λ n. other_stands n s) (cases_eq w t.worker)
+  quiet_stands a b c d s = ⊎_elim (λ e. own_stands e (rw (a, b, c, d) (simp zero-add s))) (λ n. other_stands n s) (cases_eq w t.worker)
 
 refused_stands : (c : Call) (p : Place) (w v : ℕ) (e : Refusal) (due : Option (ℕ × ℕ)) (h : History) → Stands p v h → Stands p v (turn w c (Err e) due ∷ h)
 refused_stands c p w v e due h = quiet_stands p v (turn w c (Err e) due) h (nothing _) (nothing _) (nothing _) (nothing _)

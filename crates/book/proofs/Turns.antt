@@ -1,7 +1,8 @@
 -- What holds of each turn: the table of refusals, unlocks and looks.
 use Rattle.std.proofs.Common.{◌≡◌, ℕ, ◌-◌, ◌≤◌, Bool, true, false, ltb, ◌↔◌, List, ◌∷◌, length, Some, None, Ok, Err, Option, Result, sym, refl, ap, ◌∙◌, subst, inl, inr, ⊎_elim, arith}
 use Rattle.std.proofs.lemmas.List.{get_or_past, length-take-le}
-use Rattle.std.proofs.lemmas.Bool.{cases_lt, lt-leb, le-leb, ltb-true, ltb-false}
+use Rattle.std.proofs.lemmas.Bool.{cases_lt, lt-leb, le-leb}
+use Rattle.std.proofs.lemmas.Bool.Decides.{nat_tests}
 use Rattle.lock.specs.declared.place.Place.{Place}
 use Rattle.lock.specs.declared.place.Place.TheVariants.{Out, Waiting, Inside, Leaving}
 use Rattle.lock.specs.declared.answer.Answer.{Answer}
@@ -79,28 +80,21 @@ module _ {S : Type 0} (places : S → List Place) (pair : S → Option (ℕ × �
 
 -- ## Unlocks
 
-clash : (a : Answer) (e : Refusal) (r : Result Answer Refusal) → r ≡ Ok a → r ≡ Err e → ⊥
-clash a e r x y = let z : ◌≡◌ {A = ℕ} 0 1 = cc in omega arith
-
 unlock_released : (p p' : Place) (r : Result Answer Refusal) (l e u d : ℕ) → Leads unlocking p r p' → At p l e u d → (r ≡ Ok Done) ↔ (e - u ≡ 1)
-unlock_released Out p' r l e u d k a = (λ x. absurd (clash _ _ r x k.0), λ y. absurd (omega arith))
-unlock_released Waiting p' r l e u d k a = (λ x. absurd (clash _ _ r x k.0), λ y. absurd (omega arith))
+unlock_released Out p' r l e u d k a = (λ x. cc, λ y. absurd (omega arith))
+unlock_released Waiting p' r l e u d k a = (λ x. cc, λ y. absurd (omega arith))
 unlock_released Inside p' r l e u d k a = (λ x. omega arith, λ y. k.0)
-unlock_released Leaving p' r l e u d k a = (λ x. absurd (clash _ _ r x k.0), λ y. absurd (omega arith))
+unlock_released Leaving p' r l e u d k a = (λ x. cc, λ y. absurd (omega arith))
 
 -- ## Looks
 
 -- the answer of an accepted look
 look_answer : (e : Option Refusal) (tb tb' : Table) (a b : Answer) (x : Table) (r : Result Answer Refusal) → (x, r) ≡ refused_or e tb (tb', Ok b) → r ≡ Ok a → a ≡ b
 look_answer None tb tb' a b x r k y = let z : r ≡ Ok b = ap (λ (o : Outcome Table). o.1) k in cc
-look_answer (Some f) tb tb' a b x r k y = absurd (clash a f r y (ap (λ (o : Outcome Table). o.1) k))
+look_answer (Some f) tb tb' a b x r k y = let z : r ≡ Err f = ap (λ (o : Outcome Table). o.1) k in cc
 
 found_there : (n : ℕ) (a : Answer) → a ≡ found_answer (ltb 0 n) → (a ≡ Found) ↔ (1 ≤ n)
-found_there n a e = go (ltb 0 n) refl e
-  where
-    go : (b : Bool) → ltb 0 n ≡ b → a ≡ found_answer b → (a ≡ Found) ↔ (1 ≤ n)
-    go true t k = (λ x. ltb-true 0 n t, λ y. k)
-    go false t k = (λ x. let z : ◌≡◌ {A = ℕ} 0 1 = cc in absurd (omega arith), λ y. absurd (omega (arith, ltb-false 0 n t)))
+found_there n a e = (λ x. grind (arith, nat_tests), λ y. grind (arith, nat_tests))
 
 -- ## Along a life
 
@@ -122,7 +116,7 @@ module _ {S : Type 0} (places : S → List Place) (pair : S → Option (ℕ × �
       (λ l. unlock_released _ _ t.answer _ _ _ _ (obeys.caller l) at)
       (λ l. let out : place_at (places b.lock) t.worker ≡ Out = get_or_past (places b.lock) t.worker Out (omega (arith, (sound b.lock).sixteen)) in
       let Q : Place → Type 0 = λ p. Stands p t.worker h in
-      (λ x. absurd (clash _ _ t.answer x (obeys.unknown l)), λ y. let z : Stands Out t.worker h = subst Q out at in absurd (omega arith)))
+      (λ x. let said = obeys.unknown l in cc, λ y. let z : Stands Out t.worker h = subst Q out at in absurd (omega arith)))
       (cases_lt t.worker 16)
 
   pub looked : {b : Book S} → Life places pair (t ∷ h) b → (c g : ℕ) → t.call ≡ Look c g → (a : Answer) → t.answer ≡ Ok a → (a ≡ Found) ↔ (1 ≤ copies c (stock_of h))

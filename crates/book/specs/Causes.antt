@@ -1,5 +1,5 @@
 -- Why a call on a book is refused.
-use Rattle.std.specs.Prelude.{ℕ, Bool, true, false, cond, not, ◌||◌, List, [], ◌∷◌, Some, None, Ok, Err, Option, Result, ◌==◌, nat_le, nat_lt}
+use Rattle.std.specs.Prelude.{ℕ, Bool, true, false, if◌then◌else◌, not, ◌||◌, List, [], ◌∷◌, Some, None, Ok, Err, Option, Result, ◌==◌, nat_le, nat_lt}
 use Rattle.lock.specs.declared.place.Place.{Place}
 use Rattle.lock.specs.declared.place.Place.TheVariants.{Out, Waiting, Inside, Leaving}
 use Rattle.lock.specs.declared.refusal.Refusal.{Refusal}
@@ -34,12 +34,12 @@ causes Enter p s n = (not (is_at Inside p), NotInside) ∷ ((no_slip s, NoSlip) 
 
 abbrev pub first : List Row → Option Refusal
 first [] = None
-first (r ∷ rs) = cond r.0 (Some r.1) (first rs)
+first (r ∷ rs) = if r.0 then Some r.1 else first rs
 
 -- the first cause that applies to a call by the worker w, if any does
 abbrev pub cause : Call → ℕ → Place → Option Slip → ℕ → Option Refusal
 cause c w p s n = first ((nat_le 16 w, NoWorker) ∷ causes c p s n)
 
--- the index of a worker that is inside
-abbrev pub inside_answer : Place → ℕ → Result ℕ Refusal
-inside_answer p w = cond (nat_lt w 16) (cond (is_at Inside p) (Ok w) (Err NotInside)) (Err NoWorker)
+-- what a worker gets that has to be inside
+abbrev pub inside_answer : Place → ℕ → Result (Unit {0}) Refusal
+inside_answer p w = if nat_lt w 16 then (if is_at Inside p then Ok tt else Err NotInside) else Err NoWorker

@@ -1,5 +1,5 @@
 -- What a history of calls says of its own: counts, places, slips and records, worked out from the calls and their answers alone.
-use Rattle.std.specs.Prelude.{ℕ, zero, suc, ◌+◌, ◌-◌, Bool, false, cond, ◌&&◌, List, [], ◌∷◌, ◌++◌, map, reverse, length, is_ok, Some, None, Ok, Err, count_by, Option, Result, ◌==◌, nat_lt}
+use Rattle.std.specs.Prelude.{ℕ, zero, suc, ◌+◌, ◌-◌, Bool, false, if◌then◌else◌, ◌&&◌, List, [], ◌∷◌, ◌++◌, map, reverse, length, is_ok, Some, None, Ok, Err, count_by, Option, Result, ◌==◌, nat_lt}
 use Rattle.lock.specs.declared.place.Place.{Place}
 use Rattle.lock.specs.declared.place.Place.TheVariants.{Out, Waiting, Inside, Leaving}
 use Rattle.lock.specs.declared.answer.Answer.{Answer}
@@ -82,15 +82,16 @@ counts (suc n) h = count n h + counts n h
 
 abbrev pub place_of : ℕ → History → Place
 place_of w h =
-    cond (count w h == 1) Inside
-    (cond (nat_lt (tally an_entry w h) (tally a_lock w h)) Waiting
-    (cond (nat_lt (tally a_departure w h) (tally an_unlock w h)) Leaving Out))
+    if count w h == 1 then Inside
+    else if nat_lt (tally an_entry w h) (tally a_lock w h) then Waiting
+    else if nat_lt (tally a_departure w h) (tally an_unlock w h) then Leaving
+    else Out
 
 -- ## Records and slips
 
 -- what an accepted turn of the worker w makes of x; every other turn leaves it
 abbrev pub by : {A : Type 0} → ℕ → Turn → (Answer → A) → A → A
-by w t f x = cond (w == t.worker) (elim t.answer [ Ok a ↦ f a | Err e ↦ x ]) x
+by w t f x = if w == t.worker then (elim t.answer [ Ok a ↦ f a | Err e ↦ x ]) else x
 
 abbrev pub look_next : Call → Record → Record
 look_next Lock x = x
@@ -107,7 +108,7 @@ last_look w (t ∷ h) = by w t (λ a. look_next t.call (last_look w h)) (last_lo
 -- the accepted enters, oldest first, each with the chest and grams of its worker's last accepted look before it
 abbrev pub stock_of : History → List Record
 stock_of [] = []
-stock_of (t ∷ h) = cond (calls Enter t && accepted t) (stock_of h ++ last_look t.worker h ∷ []) (stock_of h)
+stock_of (t ∷ h) = if calls Enter t && accepted t then stock_of h ++ last_look t.worker h ∷ [] else stock_of h
 
 abbrev pub slip_next : Call → Bool → ℕ → Option Slip → Option Slip
 slip_next Lock found weight s = s

@@ -1,5 +1,5 @@
 -- What the calls do to the table of a book.
-use Rattle.std.specs.Prelude.{ℕ, ◌+◌, Bool, cond, List, take, replicate, Some, None, Ok, Err, sum_by, count_by, Option, Result, nat_eq, nat_lt, slice_index_or, slice_set}
+use Rattle.std.specs.Prelude.{ℕ, ◌+◌, ◌*◌, ◌≤◌, Bool, if◌then◌else◌, List, take, replicate, Some, None, Ok, Err, sum_by, count_by, Option, Result, nat_eq, nat_lt, slice_index_or, slice_set}
 use Rattle.lock.specs.declared.place.Place.{Place}
 use Rattle.lock.specs.declared.answer.Answer.{Answer}
 use Rattle.lock.specs.declared.answer.Answer.TheVariants.{Done, Found}
@@ -55,7 +55,7 @@ refused_or None tb o = o
 refused_or (Some e) tb o = (tb, Err e)
 
 abbrev pub found_answer : Bool → Answer
-found_answer found = cond found Found Done
+found_answer found = if found then Found else Done
 
 -- a look by the worker w at the place p
 abbrev pub looked : Place → ℕ → ℕ → ℕ → Table → Outcome Table
@@ -79,3 +79,10 @@ slip_weight (Some s) = s.weight
 abbrev pub slip_grams : Option Slip → ℕ
 slip_grams None = 0
 slip_grams (Some s) = s.grams
+
+-- what the table of an open book keeps: its weight is at most a million grams for each record
+pub record Safe (tb : Table) : Type 0 where
+  pub within : tb.len ≤ 256
+  pub light : tb.weight ≤ tb.len * 1000000
+  pub noted : (w : ℕ) → slip_weight (slip_at tb w) ≤ tb.len * 1000000
+  pub lifted : (w : ℕ) → slip_grams (slip_at tb w) ≤ 1000000

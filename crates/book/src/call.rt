@@ -1,5 +1,5 @@
 // What a worker may ask of a book.
-#[derive(Clone, Copy)]
+#[derive(Clone, Copy, Debug, PartialEq, Eq)]
 pub enum Call {
     Lock,
     Unlock,
@@ -9,7 +9,7 @@ pub enum Call {
 }
 
 // A call and the worker that makes it; any number of 8 bits may be passed as a worker's.
-#[derive(Clone, Copy)]
+#[derive(Clone, Copy, Debug, PartialEq, Eq)]
 pub struct Event {
     pub worker: u8,
     pub call: Call,

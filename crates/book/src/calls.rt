@@ -14,8 +14,9 @@ const MOST_GRAMS: u32 = 1_000_000;
 
 impl<L: Lock> Book<L> {
     // A new book over a new lock.
+    #[tactic(auto, using(crate::specs::Life::made))]
     pub fn new() -> Book<L>
-        ensures { Life L.Lock.places L.Lock.pair [] result }
+        ensures { Life L.places L.pair [] result }
     {
         Book {
             lock: L::new(),
@@ -24,48 +25,50 @@ impl<L: Lock> Book<L> {
     }
 
     pub fn lock(&mut self, w: u8) -> Result<Answer, Refusal>
-        ensures { Called L.Lock.places L.Lock.pair Call.Lock w result self.old self.new }
+        ensures { Called L.places L.pair Call.Lock w result self.old self.new }
     {
         self.lock.lock(w)
     }
 
     // An accepted unlock takes the worker's slip away.
+    #[tactic(auto, using(crate::proofs::Safe::safe_put))]
     pub fn unlock(&mut self, w: u8) -> Result<Answer, Refusal>
-        ensures { Called L.Lock.places L.Lock.pair Call.Unlock w result self.old self.new }
+        ensures { Called L.places L.pair Call.Unlock w result self.old self.new }
     {
         let answer = self.lock.unlock(w)?;
-        self.table.clear(usize::from(w));
+        self.table.put(w, None);
         Ok(answer)
     }
 
     pub fn step(&mut self, w: u8) -> Result<Answer, Refusal>
-        ensures { Called L.Lock.places L.Lock.pair Call.Step w result self.old self.new }
+        ensures { Called L.places L.pair Call.Step w result self.old self.new }
     {
         self.lock.step(w)
     }
 
     // Looks for a chest that is about to be entered with its grams.
+    #[tactic(auto, using(crate::proofs::Safe::safe_put))]
     pub fn look(&mut self, w: u8, chest: u32, grams: u32) -> Result<Answer, Refusal>
-        ensures { Called L.Lock.places L.Lock.pair (Call.Look chest grams) w result self.old self.new }
+        ensures { Called L.places L.pair (Call.Look chest grams) w result self.old self.new }
     {
-        let i = self.inside(w)?;
+        self.inside(w)?;
         if grams > MOST_GRAMS {
             return Err(Refusal::Heavy);
         }
-        Ok(self.table.look(i, chest, grams))
+        Ok(self.table.look(w, chest, grams))
     }
 
     // Enters the chest that the worker looked for.
     pub fn enter(&mut self, w: u8) -> Result<Answer, Refusal>
-        ensures { Called L.Lock.places L.Lock.pair Call.Enter w result self.old self.new }
+        ensures { Called L.places L.pair Call.Enter w result self.old self.new }
     {
-        let i = self.inside(w)?;
-        self.table.enter(i)
+        self.inside(w)?;
+        self.table.enter(w)
     }
 
     // The call of an event.
     pub fn call(&mut self, event: Event) -> Result<Answer, Refusal>
-        ensures { Called L.Lock.places L.Lock.pair event.call event.worker result self.old self.new }
+        ensures { Called L.places L.pair event.call event.worker result self.old self.new }
     {
         match event.call {
             Call::Lock => self.lock(event.worker),
@@ -76,12 +79,12 @@ impl<L: Lock> Book<L> {
         }
     }
 
-    // The index of a worker that is inside.
-    fn inside(&self, w: u8) -> Result<usize, Refusal>
-        ensures { result ≡ inside_answer (place_at (L.Lock.places self.now.lock) w) w }
+    // Refuses a worker that is not inside.
+    fn inside(&self, w: u8) -> Result<(), Refusal>
+        ensures { result ≡ inside_answer (place_at (L.places self.now.lock) w) w }
     {
         match self.lock.place(w)? {
-            Place::Inside => Ok(usize::from(w)),
+            Place::Inside => Ok(()),
             Place::Out | Place::Waiting | Place::Leaving => Err(Refusal::NotInside),
         }
     }

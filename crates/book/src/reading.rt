@@ -22,14 +22,14 @@ impl<L: Lock> Book<L> {
 
     // Where the worker is, as the lock says.
     pub fn place(&self, w: u8) -> Result<Place, Refusal>
-        ensures { result ≡ place_answer (place_at (L.Lock.places self.now.lock)) w }
+        ensures { result ≡ place_answer (place_at (L.places self.now.lock)) w }
     {
         self.lock.place(w)
     }
 
     // Who is due and how far off, as the lock says.
     pub fn due(&self) -> Option<(u8, u32)>
-        ensures { result ≡ L.Lock.pair self.now.lock }
+        ensures { result ≡ L.pair self.now.lock }
     {
         self.lock.due()
     }

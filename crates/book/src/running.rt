@@ -1,7 +1,7 @@
 // The law of a book's life: of a run of events on a new book, and of the calls that a host makes itself.
-ghost use Rattle.std.specs.Prelude.{◌≡◌, ◌<◌, length, drop, is_ok, MatchResult, nat_le};
+ghost use Rattle.std.specs.Prelude.{◌≡◌, ◌<◌, length, is_ok, MatchResult, nat_le};
 ghost use Rattle.list.specs.declared.memory.Memory.TheVariants.{TooShort};
-ghost use Rattle.list.specs.Held.{list_len, list_room, list_memory, list_items, lender};
+ghost use Rattle.list.specs.Held.{KeepsRest, list_room, list_items};
 ghost use Rattle.book.specs.History.{History};
 ghost use Rattle.book.specs.Life.{Life};
 ghost use Rattle.book.specs.Law.{Law};
@@ -19,16 +19,15 @@ pub fn run<L: Lock + Drop>(
 ) -> Result<Book<L>, Memory>
     ensures value { is_ok result ≡ nat_le (length events.now) (list_room answers.old) }
     ensures cases { MatchResult result
-        (λ book. ∥ Ran L.Lock.places L.Lock.pair L.Lock.farthest events.now (list_items answers.new) book ∥₁)
+        (λ book. ∥ Ran L.places L.pair L.farthest events.now (list_items answers.new) book ∥₁)
         (λ e. (e ≡ TooShort) × (answers.new ≡ answers.old)) }
-    ensures memory { drop (list_len answers.new) (list_memory answers.new) ≡ drop (list_len answers.new) (list_memory answers.old) }
-    ensures same { lender answers.new ≡ lender answers.old }
+    ensures rest { KeepsRest answers.old answers.new }
 {
     if answers.room() < events.len() {
         return Err(Memory::TooShort);
     }
     answers.clear();
-    let mut book: Book<L> = Book::new();
+    let mut book = Book::new();
     for event in events {
         answers.push(book.call(*event))?;
     }
@@ -38,6 +37,6 @@ pub fn run<L: Lock + Drop>(
 impl<L: Lock> Book<L> {
     // Says only that the law holds of every history that the book may have: its calls so far, one by one.
     pub fn keeps_law(&self)
-        ensures { (h : History) → Life L.Lock.places L.Lock.pair h self.now → Law L.Lock.places L.Lock.pair L.Lock.farthest h self.now }
+        ensures { (h : History) → Life L.places L.pair h self.now → Law L.places L.pair L.farthest h self.now }
     {}
 }

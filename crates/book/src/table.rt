@@ -1,19 +1,19 @@
 // The plain table of a book: its records, their weight and the slips.
-ghost use Rattle.std.specs.Prelude.{◌≡◌, ◌+◌, ◌^◌, ◌<◌, ◌≤◌, Some, None};
+ghost use Rattle.std.specs.Prelude.{◌≡◌, ◌<◌, ◌≤◌, Some};
 ghost use Rattle.lock.specs.declared.place.Place.TheVariants.{Inside};
-ghost use Rattle.book.specs.Stock.{new_table, records_of, holds, slip_at, with_slip, slip_now, found_answer, entered, slip_weight, slip_grams};
+ghost use Rattle.book.specs.Stock.{new_table, records_of, holds, slip_at, with_slip, slip_now, found_answer, entered, Safe};
 
 use lock::{Answer, Refusal};
 
 // A chest in stock.
-#[derive(Clone, Copy)]
+#[derive(Clone, Copy, Debug, PartialEq, Eq)]
 pub struct Record {
     pub chest: u32,
     pub grams: u32,
 }
 
 // What a worker noted at its look: the chest and its grams, whether the chest was in the book, and the book's weight.
-#[derive(Clone, Copy)]
+#[derive(Clone, Copy, Debug, PartialEq, Eq)]
 pub struct Slip {
     pub chest: u32,
     pub grams: u32,
@@ -29,13 +29,6 @@ pub struct Table {
     pub weight: u32,
     // each worker's slip
     pub slips: [Option<Slip>; 16],
-}
-
-// Writes one slip, lent by the table.
-fn put(slip: &mut Option<Slip>, to: Option<Slip>)
-    ensures { slip.new ≡ to }
-{
-    *slip = to;
 }
 
 impl Table {
@@ -54,72 +47,71 @@ impl Table {
         requires { self.now.len ≤ 256 }
         ensures { result.now ≡ records_of self.now }
     {
-        &self.records[0..self.len]
+        &self.records[..self.len]
     }
 
     // Whether one of the records is of the chest.
-    pub(crate) fn has(&self, chest: u32) -> bool
-        requires { self.now.len ≤ 256 }
+    fn has(&self, chest: u32) -> bool
         ensures { result ≡ holds (records_of self.now) chest }
     {
-        for record in self.filled() {
-            if record.chest == chest {
-                return true;
-            }
-        }
-        false
+        self.records
+            .iter()
+            .take(self.len)
+            .any(|record| record.chest == chest)
     }
 
-    // Takes the worker's slip away.
-    pub(crate) fn clear(&mut self, i: usize)
-        requires { i < 16 }
-        ensures { self.new ≡ with_slip self.old i None }
+    // The worker's slip, if it has one.
+    fn slip(&self, w: u8) -> Option<Slip>
+        ensures { result ≡ slip_at self.now w }
     {
-        put(&mut self.slips[i], None);
+        *self.slips.get(usize::from(w))?
+    }
+
+    // Writes the worker's slip. By index, since a slice's `get_mut` says nothing of the elements after it.
+    pub(crate) fn put(&mut self, w: u8, slip: Option<Slip>)
+        ensures { self.new ≡ with_slip self.old w slip }
+    {
+        let i = usize::from(w);
+        if i < self.slips.len() {
+            self.slips[i] = slip;
+        }
     }
 
     // Writes the worker's slip anew.
-    pub(crate) fn look(&mut self, i: usize, chest: u32, grams: u32) -> Answer
-        requires { (i < 16) × (self.old.len ≤ 256) }
+    pub(crate) fn look(&mut self, w: u8, chest: u32, grams: u32) -> Answer
         ensures value { result ≡ found_answer (holds (records_of self.old) chest) }
-        ensures after { self.new ≡ with_slip self.old i (Some (slip_now self.old chest grams)) }
+        ensures after { self.new ≡ with_slip self.old w (Some (slip_now self.old chest grams)) }
     {
         let found = self.has(chest);
-        let weight = self.weight;
-        put(
-            &mut self.slips[i],
-            Some(Slip {
-                chest,
-                grams,
-                found,
-                weight,
-            }),
-        );
+        let slip = Slip {
+            chest,
+            grams,
+            found,
+            weight: self.weight,
+        };
+        self.put(w, Some(slip));
         if found { Answer::Found } else { Answer::Done }
     }
 
-    // Appends what the worker's slip says, for a worker that is inside.
-    pub(crate) fn enter(&mut self, i: usize) -> Result<Answer, Refusal>
-        requires { (i < 16) × ((self.old.len ≤ 256) × (slip_weight (slip_at self.old i) + slip_grams (slip_at self.old i) < 2 ^ 32)) }
-        ensures { (self.new, result) ≡ entered Inside i self.old }
+    // Appends what the slip of a worker inside says.
+    pub(crate) fn enter(&mut self, w: u8) -> Result<Answer, Refusal>
+        requires { Safe self.old }
+        ensures { w < 16 → (self.new, result) ≡ entered Inside w self.old }
     {
-        let Some(slip) = self.slips[i] else {
-            return Err(Refusal::NoSlip);
-        };
+        let slip = self.slip(w).ok_or(Refusal::NoSlip)?;
         if slip.found {
             return Err(Refusal::Known);
         }
-        let at = self.len;
-        if at >= 256 {
+        if self.len >= 256 {
             return Err(Refusal::BookFull);
         }
-        self.records[at] = Record {
+        self.records[self.len] = Record {
             chest: slip.chest,
             grams: slip.grams,
         };
-        self.len = at + 1;
+        self.len += 1;
         self.weight = slip.weight + slip.grams;
-        self.clear(i);
+        self.put(w, None);
         Ok(Answer::Done)
     }
 }

@@ -17,7 +17,7 @@ pub struct Turned<L> {
 }
 
 pub fn one_chest<L: Lock>(w: u8, chest: u32, grams: u32) -> Turned<L>
-    ensures { ∥ Ran L.Lock.places L.Lock.pair L.Lock.farthest
+    ensures { ∥ Ran L.places L.pair L.farthest
         (record { worker = w; call = Call.Lock } ∷ (record { worker = w; call = Call.Step } ∷ (record { worker = w; call = Call.Look chest grams } ∷ [])))
         (result.locked ∷ (result.stepped ∷ (result.looked ∷ []))) result.book ∥₁ }
 {
@@ -36,7 +36,7 @@ pub fn one_chest<L: Lock>(w: u8, chest: u32, grams: u32) -> Turned<L>
 
 // A last enter, and then the book is closed: the closed book has what that enter left.
 pub fn close_after<L: Lock + Drop>(mut book: Book<L>, w: u8) -> (Result<Answer, Refusal>, Closed)
-    ensures { (result.1.table, result.0) ≡ entered (place_at (L.Lock.places book.lock) w) w book.table }
+    ensures { (result.1.table, result.0) ≡ entered (place_at (L.places book.lock) w) w book.table }
 {
     let answer = book.enter(w);
     let closed = book.close();

@@ -1,17 +1,10 @@
-use book::{Book, Call, Event, run};
-use list::List;
-use lock::{Answer, Lock, Place, outcome_number};
+use book::Call::{Enter, Lock, Step, Unlock};
+use book::{Book, Call, Event, Record, run};
+use list::{List, Memory};
+use lock::{Answer, Place, outcome_number};
 use std::process::Abort;
 use std::test::Fail;
 use tas::Tas;
-
-const LOCK: Call = Call::Lock;
-
-const UNLOCK: Call = Call::Unlock;
-
-const STEP: Call = Call::Step;
-
-const ENTER: Call = Call::Enter;
 
 fn look(chest: u32, grams: u32) -> Call {
     Call::Look { chest, grams }
@@ -25,9 +18,7 @@ fn by(worker: u8, call: Call) -> Event {
 fn answered(rt: &impl Abort, events: &[Event], numbers: &[u8]) -> Result<(), Fail> {
     let mut memory = [Ok(Answer::Done); 16];
     let mut answers = List::new(&mut memory);
-    let Ok(_) = run::<Tas>(events, &mut answers) else {
-        return Err(Fail::new("the answers have room"));
-    };
+    run::<Tas>(events, &mut answers)?;
     assert_eq!(rt; answers.len(), numbers.len());
     for (answer, number) in answers.as_slice().iter().zip(numbers) {
         assert_eq!(rt; outcome_number(*answer), *number);
@@ -40,18 +31,18 @@ fn turns(rt: HostRuntime) -> Result<(), Fail> {
     answered(
         &rt,
         &[
-            by(0, LOCK),
-            by(0, STEP),
-            by(0, STEP),
-            by(0, LOCK),
-            by(1, LOCK),
-            by(1, STEP),
-            by(1, UNLOCK),
-            by(2, UNLOCK),
-            by(0, UNLOCK),
-            by(0, LOCK),
-            by(0, STEP),
-            by(1, STEP),
+            by(0, Lock),
+            by(0, Step),
+            by(0, Step),
+            by(0, Lock),
+            by(1, Lock),
+            by(1, Step),
+            by(1, Unlock),
+            by(2, Unlock),
+            by(0, Unlock),
+            by(0, Lock),
+            by(0, Step),
+            by(1, Step),
         ],
         &[0, 20, 5, 3, 0, 0, 2, 4, 0, 2, 21, 20],
     )
@@ -63,17 +54,17 @@ fn entries(rt: HostRuntime) -> Result<(), Fail> {
         &rt,
         &[
             by(0, look(118, 52000)),
-            by(0, LOCK),
-            by(0, STEP),
-            by(0, ENTER),
-            by(1, ENTER),
+            by(0, Lock),
+            by(0, Step),
+            by(0, Enter),
+            by(1, Enter),
             by(0, look(118, 52000)),
-            by(0, ENTER),
-            by(0, ENTER),
+            by(0, Enter),
+            by(0, Enter),
             by(0, look(118, 52000)),
-            by(0, ENTER),
-            by(0, ENTER),
-            by(0, UNLOCK),
+            by(0, Enter),
+            by(0, Enter),
+            by(0, Unlock),
         ],
         &[6, 0, 20, 7, 6, 0, 0, 7, 22, 8, 8, 0],
     )
@@ -85,14 +76,14 @@ fn slip_gone(rt: HostRuntime) -> Result<(), Fail> {
     answered(
         &rt,
         &[
-            by(3, LOCK),
-            by(3, STEP),
+            by(3, Lock),
+            by(3, Step),
             by(3, look(7, 1)),
-            by(3, UNLOCK),
-            by(3, STEP),
-            by(3, LOCK),
-            by(3, STEP),
-            by(3, ENTER),
+            by(3, Unlock),
+            by(3, Step),
+            by(3, Lock),
+            by(3, Step),
+            by(3, Enter),
         ],
         &[0, 20, 0, 0, 21, 0, 20, 7],
     )
@@ -103,13 +94,13 @@ fn limits(rt: HostRuntime) -> Result<(), Fail> {
     answered(
         &rt,
         &[
-            by(15, LOCK),
-            by(16, LOCK),
+            by(15, Lock),
+            by(16, Lock),
             by(255, look(1, 1000001)),
-            by(15, STEP),
+            by(15, Step),
             by(15, look(1, 1000000)),
             by(15, look(1, 1000001)),
-            by(15, ENTER),
+            by(15, Enter),
         ],
         &[0, 1, 1, 20, 0, 9, 0],
     )
@@ -142,25 +133,24 @@ fn closing(rt: HostRuntime) {
     assert_eq!(rt; outcome_number(book.look(4, 9, 30)), 0);
     assert_eq!(rt; outcome_number(book.enter(4)), 0);
     let closed = book.close();
-    assert!(rt; closed.records().len() == 1);
-    assert_eq!(rt; closed.records()[0].chest, 9);
+    assert_eq!(rt;
+        closed.records(),
+        [Record {
+            chest: 9,
+            grams: 30
+        }]
+        .as_slice()
+    );
     assert_eq!(rt; closed.weight(), 30);
 }
 
 // Refused before anything is written.
 #[test]
-fn short_memory(rt: HostRuntime) -> Result<(), Fail> {
+fn short_memory(rt: HostRuntime) {
     let mut memory = [Ok(Answer::Found); 1];
     let mut answers = List::new(&mut memory);
-    let events = [Event {
-        worker: 0,
-        call: LOCK,
-    }; 2];
-    let Err(e) = run::<Tas>(&events, &mut answers) else {
-        return Err(Fail::new("two answers have no room in one place"));
-    };
-    assert_eq!(rt; e.number(), 16);
+    let refused = run::<Tas>(&[by(0, Lock); 2], &mut answers).err();
+    assert_eq!(rt; refused.map(Memory::number), Some(16));
     assert_eq!(rt; answers.len(), 0);
     assert_eq!(rt; outcome_number(memory[0]), 22);
-    Ok(())
 }

@@ -1,5 +1,5 @@
 -- What a list over lent memory holds.
-use Rattle.std.specs.Prelude.{ℕ, cond, List, length, take, Ok, Err, Result, nat_lt}
+use Rattle.std.specs.Prelude.{◌≡◌, ℕ, if◌then◌else◌, List, length, take, drop, Ok, Err, Result, nat_lt}
 use Rattle.std.specs.Borrow.{GName}
 use Rattle.list.specs.declared.List.{List as Listing}
 use Rattle.list.specs.declared.memory.Memory.{Memory}
@@ -26,4 +26,9 @@ module _ {X : Type 0} where
 
   -- what `push` answers
   abbrev pub push_answer : Listing X → Result (Unit {0}) Memory
-  push_answer l = cond (nat_lt (list_len l) (list_room l)) (Ok tt) (Err TooShort)
+  push_answer l = if nat_lt (list_len l) (list_room l) then Ok tt else Err TooShort
+
+-- the memory past the items is as it was, and is still the same lender's
+pub record KeepsRest {X : Type 0} (before after : Listing X) : Type 0 where
+  pub memory : drop (list_len after) (list_memory after) ≡ drop (list_len after) (list_memory before)
+  pub same : lender after ≡ lender before

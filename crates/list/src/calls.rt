@@ -5,7 +5,7 @@ use crate::{List, Memory};
 
 impl<'a, T: Drop> List<'a, T> {
     // An empty list over all of `items`.
-    pub fn new(items: &'a mut [T]) -> List<'a, T>
+    pub fn new(items: &'a mut [T]) -> Self
         ensures items { list_items result ≡ [] }
         ensures len { list_len result ≡ 0 }
         ensures memory { list_memory result ≡ items.old }
@@ -31,7 +31,7 @@ impl<'a, T: Drop> List<'a, T> {
     pub fn as_slice(&self) -> &[T]
         ensures { result.now ≡ list_items self.now }
     {
-        &self.items[0..self.len]
+        &self.items[..self.len]
     }
 
     // Empty again; the memory keeps what it holds.
@@ -44,7 +44,7 @@ impl<'a, T: Drop> List<'a, T> {
         self.len = 0;
     }
 
-    // Refused where the list is full.
+    // Refused where the list is full. The write is by index, since a slice's `get_mut` says nothing of the elements after it.
     pub fn push(&mut self, x: T) -> Result<(), Memory>
         ensures value { result ≡ push_answer self.old }
         ensures items { list_len self.old < list_room self.old → list_items self.new ≡ list_items self.old ++ x ∷ [] }

@@ -1,5 +1,8 @@
+use Rattle.std.proofs.Common.{rules}
 use Rattle.book.proofs.Safe.{safe_entered}
 use Rattle.book.proofs.Book.enter.Goals as goal
 
 pub invariant_of-self : goal.invariant_of-self
-invariant_of-self g c = let b = c.args.self.now in safe_entered b.table c.enter.new.self c.in_ok-i.i c.enter.result c.enter.ensures (record { within = b.within; light = b.light; noted = b.noted; lifted = b.lifted })
+invariant_of-self g c =
+    let before = c.args.self.now in
+    record { safe = safe_entered before.table c.enter.new.self c.args.w c.enter.result (c.enter.ensures (search rules)) before.safe }

@@ -9,6 +9,6 @@ returns g c =
     record {
       value = r.value;
       cases = ∥∥₁_map r.cases (ended g.L.Lock.places g.L.Lock.pair g.L.Lock.farthest _ _ c.in_ok-book.book _ c.inside_of-inside.ensures (ap length c.records-chests.ensures) c.weight-grams.ensures);
-      memory = r.memory;
-      same = r.same;
+      memory = r.rest.memory;
+      same = r.rest.same;
     }
