@@ -1,6 +1,7 @@
 -- A worker's count is 0 or 1, and all counts together come to at most 1.
-use Rattle.std.proofs.Common.{◌≡◌, ℕ, zero, suc, ◌-◌, ◌<◌, ◌≤◌, List, Option, refl, ⊎_elim, arith}
+use Rattle.std.proofs.Common.{◌≡◌, ℕ, zero, suc, ◌-◌, ◌<◌, ◌≤◌, refl, ⊎_elim, arith}
 use Rattle.std.proofs.lemmas.Bool.{cases_lt}
+use Rattle.lock.specs.declared.interface.Lock.{Ghosts}
 use Rattle.lock.specs.declared.place.Place.{Place}
 use Rattle.lock.specs.declared.place.Place.TheVariants.{Out, Waiting, Inside, Leaving}
 use Rattle.lock.specs.Rules.{Sound}
@@ -34,12 +35,12 @@ module _ (h : History) where
       (λ l. ⊎_elim (λ m. omega (arith, at_most_one single alone n)) (λ m. let r = some_below n l in absurd (omega (arith, alone r.0 n r.2 m, r.1))) (cases_lt (count n h) 1))
       (cases_lt (counts n h) 1)
 
-pub counted : {S : Type 0} (places : S → List Place) (pair : S → Option (ℕ × ℕ)) (bound : ℕ) → ((s : S) → Sound bound (places s) (pair s)) → {h : History} {b : Book S} → Life places pair h b → Counted h
-counted {S} places pair bound sound {h} {b} life = record {
-  ordered = λ w. (zero_or_one _ _ _ _ _ (stands places pair life w)).0;
+pub counted : {S : Type 0} (lock : Ghosts S) → ((s : S) → Sound lock.BOUND (lock.places s) (lock.pair s)) → {h : History} {b : Book S} → Life lock h b → Counted h
+counted {S} lock sound {h} {b} life = record {
+  ordered = λ w. (zero_or_one _ _ _ _ _ (stands lock life w)).0;
   single = single;
-  together = at_most_one h single (λ v w k l. (sound b.lock).alone v w (inside_count _ _ _ _ _ (stands places pair life v) k) (inside_count _ _ _ _ _ (stands places pair life w) l));
+  together = at_most_one h single (λ v w k l. (sound b.lock).alone v w (inside_count _ _ _ _ _ (stands lock life v) k) (inside_count _ _ _ _ _ (stands lock life w) l));
 }
   where
     single : (w : ℕ) → count w h ≤ 1
-    single w = (zero_or_one _ _ _ _ _ (stands places pair life w)).1
+    single w = (zero_or_one _ _ _ _ _ (stands lock life w)).1

@@ -5,6 +5,7 @@ use Rattle.std.proofs.lemmas.List.{length-set, take_more_set, get_or-set_other}
 use Rattle.std.proofs.lemmas.List.Sums.{sum_by_push}
 use Rattle.std.proofs.lemmas.Bool.{cases_eq, cases_lt, eq-eqb, ne_eqb, ltb-false}
 use Rattle.std.proofs.lemmas.Bool.Decides.{nat_tests}
+use Rattle.lock.specs.declared.interface.Lock.{Ghosts}
 use Rattle.lock.proofs.Small.{all_same}
 use Rattle.lock.specs.declared.place.Place.{Place}
 use Rattle.lock.specs.declared.place.Place.TheVariants.{Inside}
@@ -106,17 +107,17 @@ fresh_put w x f p rs look y mine theirs v = ⊎_elim
 
 -- ## Who stays inside
 
-module _ {S : Type 0} (places : S → List Place) (pair : S → Option (ℕ × ℕ)) where
-  inside_stays : (q : Request) (w : ℕ) (r : Result Answer Refusal) (s s' : S) → Obeys places pair q w r s s' → ((p : Place) → Leads q Inside r p → p ≡ Inside) → (v : ℕ) → place_at (places s) v ≡ Inside → place_at (places s') v ≡ Inside
+module _ {S : Type 0} (lock : Ghosts S) where
+  inside_stays : (q : Request) (w : ℕ) (r : Result Answer Refusal) (s s' : S) → Obeys lock.places lock.pair q w r s s' → ((p : Place) → Leads q Inside r p → p ≡ Inside) → (v : ℕ) → place_at (lock.places s) v ≡ Inside → place_at (lock.places s') v ≡ Inside
   inside_stays q w r s s' k keeps v i = ⊎_elim
       (λ (e : v ≡ w). ⊎_elim
-      (λ l. let P : Place → Type 0 = λ p. Leads q p r (place_at (places s') w) in ap (place_at (places s')) e ∙ keeps _ (subst P (ap (place_at (places s)) (sym e) ∙ i) (k.caller l)))
-      (λ l. ap (λ z. place_at (places z) v) (k.refused NoWorker (k.unknown l)) ∙ i) (cases_lt w 16))
+      (λ l. let P : Place → Type 0 = λ p. Leads q p r (place_at (lock.places s') w) in ap (place_at (lock.places s')) e ∙ keeps _ (subst P (ap (place_at (lock.places s)) (sym e) ∙ i) (k.caller l)))
+      (λ l. ap (λ z. place_at (lock.places z) v) (k.refused NoWorker (k.unknown l)) ∙ i) (cases_lt w 16))
       (λ n. k.others v n ∙ i) (cases_eq v w)
 
   -- ## An unlock
 
-  holding_unlocked : (w : ℕ) (due : Option (ℕ × ℕ)) (r : Result Answer Refusal) (h : History) (s s' : S) (tb : Table) → Obeys places pair unlocking w r s s' → Holding (places s) tb h → Holding (places s') (unlocked r w tb) (turn w Unlock r due ∷ h)
+  holding_unlocked : (w : ℕ) (due : Option (ℕ × ℕ)) (r : Result Answer Refusal) (h : History) (s s' : S) (tb : Table) → Obeys lock.places lock.pair unlocking w r s s' → Holding (lock.places s) tb h → Holding (lock.places s') (unlocked r w tb) (turn w Unlock r due ∷ h)
   holding_unlocked w due (Ok a) h s s' tb k was = record {
     listed = was.listed;
     long = was.long;
@@ -124,14 +125,14 @@ module _ {S : Type 0} (places : S → List Place) (pair : S → Option (ℕ × �
     weighs = was.weighs;
     hands = length-set tb.slips w None ∙ was.hands;
     slips = slips_put tb.slips w None h was.hands known was.slips;
-    fresh = fresh_put w None (λ v. slip_of v h) (place_at (places s')) (stock_of h) (λ v. last_look v h) (λ v. last_look v h) tt
+    fresh = fresh_put w None (λ v. slip_of v h) (place_at (lock.places s')) (stock_of h) (λ v. last_look v h) (λ v. last_look v h) tt
         (λ v n. fresh_stays _ _ _ _ _ (λ i. k.others v n ∙ i) (was.fresh v));
     once = was.once;
   }
     where
       known : w < 16
       known = ⊎_elim (λ l. l) (λ l. let said = k.unknown l in cc) (cases_lt w 16)
-  holding_unlocked w due (Err x) h s s' tb k was = holding_still (places s) (places s') tb (turn w Unlock (Err x) due) h (refused_still w due h Unlock x) (λ v i. ap (λ z. place_at (places z) v) (k.refused x refl) ∙ i) was
+  holding_unlocked w due (Err x) h s s' tb k was = holding_still (lock.places s) (lock.places s') tb (turn w Unlock (Err x) due) h (refused_still w due h Unlock x) (λ v i. ap (λ z. place_at (lock.places z) v) (k.refused x refl) ∙ i) was
 
 -- ## A look
 
@@ -214,14 +215,14 @@ module _ (ps : List Place) (tb : Table) (w : ℕ) (due : Option (ℕ × ℕ)) (h
 
 -- ## Every call
 
-module _ {S : Type 0} (places : S → List Place) (pair : S → Option (ℕ × ℕ)) (bound : ℕ) (sound : (s : S) → Sound bound (places s) (pair s)) where
-  keeps : (c : Call) (w : ℕ) (r : Result Answer Refusal) (due : Option (ℕ × ℕ)) (h : History) (s s' : S) (tb tb' : Table) → Effect places pair c w r s tb s' tb' → Holding (places s) tb h → Holding (places s') tb' (turn w c r due ∷ h)
-  keeps Lock w r due h s s' tb tb' k was = rw k.1 (holding_still (places s) (places s') tb (turn w Lock r due) h (lock_still w due h r) (inside_stays places pair locking w r s s' k.0 (λ p l. l.1)) was)
-  keeps Unlock w r due h s s' tb tb' k was = rw k.1 (holding_unlocked places pair w due r h s s' tb k.0 was)
-  keeps Step w r due h s s' tb tb' k was = rw k.1 (holding_still (places s) (places s') tb (turn w Step r due) h (step_still w due h r) (inside_stays places pair stepping w r s s' k.0 (λ p l. l.1)) was)
-  keeps (Look c g) w r due h s s' tb tb' k was = rw k.0 (subst (After (places s) tb w due h was (Look c g)) (sym k.1) (look_holding (places s) tb w due h was c g _ refl))
-  keeps Enter w r due h s s' tb tb' k was = rw k.0 (subst (After (places s) tb w due h was Enter) (sym k.1) (enter_holding (places s) tb w due h was (sound s).alone _ refl))
+module _ {S : Type 0} (lock : Ghosts S) (sound : (s : S) → Sound lock.BOUND (lock.places s) (lock.pair s)) where
+  keeps : (c : Call) (w : ℕ) (r : Result Answer Refusal) (due : Option (ℕ × ℕ)) (h : History) (s s' : S) (tb tb' : Table) → Effect lock c w r s tb s' tb' → Holding (lock.places s) tb h → Holding (lock.places s') tb' (turn w c r due ∷ h)
+  keeps Lock w r due h s s' tb tb' k was = rw k.1 (holding_still (lock.places s) (lock.places s') tb (turn w Lock r due) h (lock_still w due h r) (inside_stays lock locking w r s s' k.0 (λ p l. l.1)) was)
+  keeps Unlock w r due h s s' tb tb' k was = rw k.1 (holding_unlocked lock w due r h s s' tb k.0 was)
+  keeps Step w r due h s s' tb tb' k was = rw k.1 (holding_still (lock.places s) (lock.places s') tb (turn w Step r due) h (step_still w due h r) (inside_stays lock stepping w r s s' k.0 (λ p l. l.1)) was)
+  keeps (Look c g) w r due h s s' tb tb' k was = rw k.0 (subst (After (lock.places s) tb w due h was (Look c g)) (sym k.1) (look_holding (lock.places s) tb w due h was c g _ refl))
+  keeps Enter w r due h s s' tb tb' k was = rw k.0 (subst (After (lock.places s) tb w due h was Enter) (sym k.1) (enter_holding (lock.places s) tb w due h was (sound s).alone _ refl))
 
-  pub holding : {h : History} {b : Book S} → Life places pair h b → Holding (places b.lock) b.table h
-  holding (made {b} e f) = rw f (holding_new (places b.lock))
+  pub holding : {h : History} {b : Book S} → Life lock h b → Holding (lock.places b.lock) b.table h
+  holding (made {b} e f) = rw f (holding_new (lock.places b.lock))
   holding (then {h} {b} {t} b' life due k) = keeps t.call t.worker t.answer t.due h b.lock b'.lock b.table b'.table k (holding life)

@@ -1,9 +1,10 @@
 -- The lock's places are those that the counts of the history give.
-use Rattle.std.proofs.Common.{◌≡◌, ◌≢◌, ℕ, ◌+◌, ◌-◌, Bool, false, cond, ◌&&◌, eqb, ltb, List, ◌∷◌, Ok, Err, Option, Result, sym, refl, ap, ◌∙◌, subst, ⊎_elim, arith}
+use Rattle.std.proofs.Common.{◌≡◌, ◌≢◌, ℕ, ◌+◌, ◌-◌, Bool, false, cond, ◌&&◌, eqb, ltb, ◌∷◌, Ok, Err, Option, Result, sym, refl, ap, ◌∙◌, subst, ⊎_elim, arith}
 use native.Mathlib.Nat.{zero-add}
 use Rattle.std.proofs.lemmas.List.Sums.{sum_by-cons}
 use Rattle.std.proofs.lemmas.Bool.{cases_eq, cases_lt, and_right, eq-eqb, ne_eqb}
 use Rattle.std.proofs.lemmas.Bool.Decides.{nat_tests}
+use Rattle.lock.specs.declared.interface.Lock.{Ghosts}
 use Rattle.lock.proofs.Small.{all_same}
 use Rattle.lock.specs.declared.place.Place.{Place}
 use Rattle.lock.specs.declared.place.Place.TheVariants.{Out, Waiting, Inside, Leaving}
@@ -102,28 +103,28 @@ takes_step w due Leaving p' (Err x) l e u d k a = absurd k
 
 -- ## Along a life
 
-module _ {S : Type 0} (places : S → List Place) (pair : S → Option (ℕ × ℕ)) where
-  moved : (q : Request) (c : Call) → Takes q c → (w : ℕ) (r : Result Answer Refusal) (due : Option (ℕ × ℕ)) (h : History) (s s' : S) → Obeys places pair q w r s s'
-      → ((v : ℕ) → Stands (place_at (places s) v) v h) → (v : ℕ) → Stands (place_at (places s') v) v (turn w c r due ∷ h)
+module _ {S : Type 0} (lock : Ghosts S) where
+  moved : (q : Request) (c : Call) → Takes q c → (w : ℕ) (r : Result Answer Refusal) (due : Option (ℕ × ℕ)) (h : History) (s s' : S) → Obeys lock.places lock.pair q w r s s'
+      → ((v : ℕ) → Stands (place_at (lock.places s) v) v h) → (v : ℕ) → Stands (place_at (lock.places s') v) v (turn w c r due ∷ h)
   moved q c takes w r due h s s' k was v = ⊎_elim
-      (λ (e : v ≡ w). let P : ℕ → Type 0 = λ x. Stands (place_at (places s') x) x (turn w c r due ∷ h) in subst P (sym e) (⊎_elim
+      (λ (e : v ≡ w). let P : ℕ → Type 0 = λ x. Stands (place_at (lock.places s') x) x (turn w c r due ∷ h) in subst P (sym e) (⊎_elim
       (λ l. own_stands _ w (turn w c r due) h refl (takes w due _ _ r _ _ _ _ (k.caller l) (was w)))
       (λ l. rw (k.refused NoWorker (k.unknown l), k.unknown l) (refused_stands c _ w w NoWorker due h (was w)))
       (cases_lt w 16)))
       (λ n. rw (k.others v n) (other_stands _ v (turn w c r due) h n (was v)))
       (cases_eq v w)
 
-  moves : (c : Call) (w : ℕ) (r : Result Answer Refusal) (due : Option (ℕ × ℕ)) (h : History) (s s' : S) (tb tb' : Table) → Effect places pair c w r s tb s' tb'
-      → ((v : ℕ) → Stands (place_at (places s) v) v h) → (v : ℕ) → Stands (place_at (places s') v) v (turn w c r due ∷ h)
+  moves : (c : Call) (w : ℕ) (r : Result Answer Refusal) (due : Option (ℕ × ℕ)) (h : History) (s s' : S) (tb tb' : Table) → Effect lock c w r s tb s' tb'
+      → ((v : ℕ) → Stands (place_at (lock.places s) v) v h) → (v : ℕ) → Stands (place_at (lock.places s') v) v (turn w c r due ∷ h)
   moves Lock w r due h s s' tb tb' k was v = moved locking Lock takes_lock w r due h s s' k.0 was v
   moves Unlock w r due h s s' tb tb' k was v = moved unlocking Unlock takes_unlock w r due h s s' k.0 was v
   moves Step w r due h s s' tb tb' k was v = moved stepping Step takes_step w r due h s s' k.0 was v
   moves (Look c g) w r due h s s' tb tb' k was v = rw k.0 (quiet_stands _ v (turn w (Look c g) r due) h refl refl refl refl (was v))
   moves Enter w r due h s s' tb tb' k was v = rw k.0 (quiet_stands _ v (turn w Enter r due) h refl refl refl refl (was v))
 
-  pub stands : {h : History} {b : Book S} → Life places pair h b → (w : ℕ) → Stands (place_at (places b.lock) w) w h
+  pub stands : {h : History} {b : Book S} → Life lock h b → (w : ℕ) → Stands (place_at (lock.places b.lock) w) w h
   stands (made e f) w = rw (e, all_same 16 Out w) (refl, refl, refl)
   stands (then {h} {b} {t} b' life due k) w = moves t.call t.worker t.answer t.due h b.lock b'.lock b.table b'.table k (stands life) w
 
-  pub agree : {h : History} {b : Book S} → Life places pair h b → (w : ℕ) → place_of w h ≡ place_at (places b.lock) w
+  pub agree : {h : History} {b : Book S} → Life lock h b → (w : ℕ) → place_of w h ≡ place_at (lock.places b.lock) w
   agree life w = placed _ _ _ _ _ (stands life w)

@@ -3,6 +3,7 @@ use Rattle.std.proofs.Common.{◌≡◌, ℕ, ◌-◌, ◌≤◌, Bool, true, fa
 use Rattle.std.proofs.lemmas.List.{get_or_past, length-take-le}
 use Rattle.std.proofs.lemmas.Bool.{cases_lt, lt-leb, le-leb}
 use Rattle.std.proofs.lemmas.Bool.Decides.{nat_tests}
+use Rattle.lock.specs.declared.interface.Lock.{Ghosts}
 use Rattle.lock.specs.declared.place.Place.{Place}
 use Rattle.lock.specs.declared.place.Place.TheVariants.{Out, Waiting, Inside, Leaving}
 use Rattle.lock.specs.declared.answer.Answer.{Answer}
@@ -64,19 +65,19 @@ answered : (c : Call) (p : Place) (e : Option Refusal) (tb : Table) (tb' : Table
 answered c p None tb tb' a k = k
 answered c p (Some x) tb tb' a k = refl
 
-module _ {S : Type 0} (places : S → List Place) (pair : S → Option (ℕ × ℕ)) where
-  by_lock : (q : Request) (c : Call) → Decided q c → (w : ℕ) (r : Result Answer Refusal) (s s' : S) (o : Option Slip) (n : ℕ) → Obeys places pair q w r s s' → Answered (cause c w (place_at (places s) w) o n) c (place_at (places s) w) r
+module _ {S : Type 0} (lock : Ghosts S) where
+  by_lock : (q : Request) (c : Call) → Decided q c → (w : ℕ) (r : Result Answer Refusal) (s s' : S) (o : Option Slip) (n : ℕ) → Obeys lock.places lock.pair q w r s s' → Answered (cause c w (place_at (lock.places s) w) o n) c (place_at (lock.places s) w) r
   by_lock q c decided w r s s' o n k = ⊎_elim
       (λ l. rw (lt-leb 16 w l) (decided _ _ r o n (k.caller l)))
       (λ l. rw (le-leb 16 w l) (k.unknown l))
       (cases_lt w 16)
 
-  decides : (c : Call) (w : ℕ) (r : Result Answer Refusal) (s s' : S) (tb tb' : Table) → Effect places pair c w r s tb s' tb' → Answered (cause c w (place_at (places s) w) (slip_at tb w) tb.len) c (place_at (places s) w) r
+  decides : (c : Call) (w : ℕ) (r : Result Answer Refusal) (s s' : S) (tb tb' : Table) → Effect lock c w r s tb s' tb' → Answered (cause c w (place_at (lock.places s) w) (slip_at tb w) tb.len) c (place_at (lock.places s) w) r
   decides Lock w r s s' tb tb' k = by_lock locking Lock lock_decided w r s s' (slip_at tb w) tb.len k.0
   decides Unlock w r s s' tb tb' k = by_lock unlocking Unlock unlock_decided w r s s' (slip_at tb w) tb.len k.0
   decides Step w r s s' tb tb' k = by_lock stepping Step step_decided w r s s' (slip_at tb w) tb.len k.0
-  decides (Look c g) w r s s' tb tb' k = rw (ap (λ (o : Outcome Table). o.1) k.1) (answered (Look c g) (place_at (places s) w) (cause (Look c g) w (place_at (places s) w) (slip_at tb w) tb.len) tb _ _ (can_find c g (place_at (places s) w) (holds (records_of tb) c)))
-  decides Enter w r s s' tb tb' k = rw (ap (λ (o : Outcome Table). o.1) k.1) (answered Enter (place_at (places s) w) (cause Enter w (place_at (places s) w) (slip_at tb w) tb.len) tb _ _ refl)
+  decides (Look c g) w r s s' tb tb' k = rw (ap (λ (o : Outcome Table). o.1) k.1) (answered (Look c g) (place_at (lock.places s) w) (cause (Look c g) w (place_at (lock.places s) w) (slip_at tb w) tb.len) tb _ _ (can_find c g (place_at (lock.places s) w) (holds (records_of tb) c)))
+  decides Enter w r s s' tb tb' k = rw (ap (λ (o : Outcome Table). o.1) k.1) (answered Enter (place_at (lock.places s) w) (cause Enter w (place_at (lock.places s) w) (slip_at tb w) tb.len) tb _ _ refl)
 
 -- ## Unlocks
 
@@ -101,27 +102,27 @@ found_there n a e = (λ x. grind (arith, nat_tests), λ y. grind (arith, nat_tes
 pub whole : (ps : List Place) (tb : Table) (h : History) → Holding ps tb h → tb.len ≡ length (stock_of h)
 whole ps tb h k = sym (length-take-le tb.len tb.records (omega (arith, k.long, k.fits))) ∙ ap length k.listed
 
-module _ {S : Type 0} (places : S → List Place) (pair : S → Option (ℕ × ℕ)) (bound : ℕ) (sound : (s : S) → Sound bound (places s) (pair s)) (t : Turn) (h : History) where
-  pub table : {b : Book S} → Life places pair (t ∷ h) b → Answered (cause_after h t.worker t.call) t.call (place_of t.worker h) t.answer
+module _ {S : Type 0} (lock : Ghosts S) (sound : (s : S) → Sound lock.BOUND (lock.places s) (lock.pair s)) (t : Turn) (h : History) where
+  pub table : {b : Book S} → Life lock (t ∷ h) b → Answered (cause_after h t.worker t.call) t.call (place_of t.worker h) t.answer
   table (then {b} b' life due k) =
-      let was = holding places pair bound sound life in
-      rw (agree places pair life t.worker, ← (was.slips t.worker), ← (whole (places b.lock) b.table h was)) (decides places pair t.call t.worker t.answer b.lock b'.lock b.table b'.table k)
+      let was = holding lock sound life in
+      rw (agree lock life t.worker, ← (was.slips t.worker), ← (whole (lock.places b.lock) b.table h was)) (decides lock t.call t.worker t.answer b.lock b'.lock b.table b'.table k)
 
-  pub released : {b : Book S} → Life places pair (t ∷ h) b → t.call ≡ Unlock → (t.answer ≡ Ok Done) ↔ (count t.worker h ≡ 1)
+  pub released : {b : Book S} → Life lock (t ∷ h) b → t.call ≡ Unlock → (t.answer ≡ Ok Done) ↔ (count t.worker h ≡ 1)
   released (then {b} b' life due k) e =
-      let P : Call → Type 0 = λ c. Effect places pair c t.worker t.answer b.lock b.table b'.lock b'.table in
-      let obeys : Obeys places pair unlocking t.worker t.answer b.lock b'.lock = (subst P e k).0 in
-      let at = stands places pair life t.worker in
+      let P : Call → Type 0 = λ c. Effect lock c t.worker t.answer b.lock b.table b'.lock b'.table in
+      let obeys : Obeys lock.places lock.pair unlocking t.worker t.answer b.lock b'.lock = (subst P e k).0 in
+      let at = stands lock life t.worker in
       ⊎_elim
       (λ l. unlock_released _ _ t.answer _ _ _ _ (obeys.caller l) at)
-      (λ l. let out : place_at (places b.lock) t.worker ≡ Out = get_or_past (places b.lock) t.worker Out (omega (arith, (sound b.lock).sixteen)) in
+      (λ l. let out : place_at (lock.places b.lock) t.worker ≡ Out = get_or_past (lock.places b.lock) t.worker Out (omega (arith, (sound b.lock).sixteen)) in
       let Q : Place → Type 0 = λ p. Stands p t.worker h in
       (λ x. let said = obeys.unknown l in cc, λ y. let z : Stands Out t.worker h = subst Q out at in absurd (omega arith)))
       (cases_lt t.worker 16)
 
-  pub looked : {b : Book S} → Life places pair (t ∷ h) b → (c g : ℕ) → t.call ≡ Look c g → (a : Answer) → t.answer ≡ Ok a → (a ≡ Found) ↔ (1 ≤ copies c (stock_of h))
+  pub looked : {b : Book S} → Life lock (t ∷ h) b → (c g : ℕ) → t.call ≡ Look c g → (a : Answer) → t.answer ≡ Ok a → (a ≡ Found) ↔ (1 ≤ copies c (stock_of h))
   looked (then {b} b' life due k) c g e a said =
-      let P : Call → Type 0 = λ x. Effect places pair x t.worker t.answer b.lock b.table b'.lock b'.table in
-      let effect : Effect places pair (Look c g) t.worker t.answer b.lock b.table b'.lock b'.table = subst P e k in
-      let found = look_answer (cause (Look c g) t.worker (place_at (places b.lock) t.worker) (slip_at b.table t.worker) b.table.len) b.table _ a _ b'.table t.answer effect.1 said in
-      found_there (copies c (stock_of h)) a (found ∙ ap (λ rs. found_answer (holds rs c)) (holding places pair bound sound life).listed)
+      let P : Call → Type 0 = λ x. Effect lock x t.worker t.answer b.lock b.table b'.lock b'.table in
+      let effect : Effect lock (Look c g) t.worker t.answer b.lock b.table b'.lock b'.table = subst P e k in
+      let found = look_answer (cause (Look c g) t.worker (place_at (lock.places b.lock) t.worker) (slip_at b.table t.worker) b.table.len) b.table _ a _ b'.table t.answer effect.1 said in
+      found_there (copies c (stock_of h)) a (found ∙ ap (λ rs. found_answer (holds rs c)) (holding lock sound life).listed)

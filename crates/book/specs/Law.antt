@@ -1,5 +1,6 @@
 -- The law of a book's life, over the history of its calls.
 use Rattle.std.specs.Prelude.{◌≡◌, ℕ, ◌<◌, ◌≤◌, ◌⊎◌, ◌↔◌, List, ◌∷◌, ◌++◌, Some, None, Ok, Err, count_by, Option, Result, ◌≢◌}
+use Rattle.lock.specs.declared.interface.Lock.{Ghosts}
 use Rattle.lock.specs.declared.place.Place.{Place}
 use Rattle.lock.specs.declared.place.Place.TheVariants.{Out, Waiting, Inside, Leaving}
 use Rattle.lock.specs.declared.answer.Answer.{Answer}
@@ -67,10 +68,10 @@ pub record Agrees (h : History) (ps : List Place) (tb : Table) : Type 0 where
   pub slips : (w : ℕ) → slip_at tb w ≡ slip_of w h
 
 -- the book as it was when it had this history
-pub record Moment {S : Type 0} (places : S → List Place) (pair : S → Option (ℕ × ℕ)) (h : History) : Type 0 where
+pub record Moment {S : Type 0} (lock : Ghosts S) (h : History) : Type 0 where
   pub book : Book S
-  pub life : Life places pair h book
-  pub agrees : Agrees h (places book.lock) book.table
+  pub life : Life lock h book
+  pub agrees : Agrees h (lock.places book.lock) book.table
 
 -- where nobody is inside before and somebody waits, fewer due steps than the bound come during a time without an entry
 abbrev pub Prompt : ℕ → History → History → Type 0
@@ -86,13 +87,13 @@ abbrev pub EachMoment : History → (History → Type 0) → Type 0
 EachMoment h P = (later before : History) → h ≡ later ++ before → P before
 
 -- the law of a book with the history h
-pub record Law {S : Type 0} (places : S → List Place) (pair : S → Option (ℕ × ℕ)) (bound : ℕ) (h : History) (book : Book S) : Type 0 where
+pub record Law {S : Type 0} (lock : Ghosts S) (h : History) (book : Book S) : Type 0 where
   pub table : EachTurn h Tabled
   pub counts : EachMoment h Counted
   pub released : EachTurn h Released
   -- places, records, weight and slips, now and at every moment
-  pub agrees : Agrees h (places book.lock) book.table
-  pub moments : EachMoment h (λ before. ∥ Moment places pair before ∥₁)
+  pub agrees : Agrees h (lock.places book.lock) book.table
+  pub moments : EachMoment h (λ before. ∥ Moment lock before ∥₁)
   pub once : EachMoment h EnteredOnce
   pub looked : EachTurn h Looked
-  pub progress : (later during before : History) → h ≡ later ++ (during ++ before) → Prompt bound during before
+  pub progress : (later during before : History) → h ≡ later ++ (during ++ before) → Prompt lock.BOUND during before

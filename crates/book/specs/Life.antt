@@ -1,6 +1,6 @@
 -- The life of a book: the calls made on it since it was new, with their answers.
-use Rattle.std.specs.Prelude.{◌≡◌, ℕ, List, [], ◌∷◌, replicate, Option, Result}
-use Rattle.lock.specs.declared.place.Place.{Place}
+use Rattle.std.specs.Prelude.{◌≡◌, ℕ, [], ◌∷◌, replicate, Result}
+use Rattle.lock.specs.declared.interface.Lock.{Ghosts}
 use Rattle.lock.specs.declared.place.Place.TheVariants.{Out}
 use Rattle.lock.specs.declared.answer.Answer.{Answer}
 use Rattle.lock.specs.declared.refusal.Refusal.{Refusal}
@@ -13,18 +13,18 @@ use Rattle.book.specs.History.{History, Turn}
 use Rattle.book.specs.Stock.{new_table, unlocked, looked, entered}
 
 -- what a call by the worker w, answered by r, makes of the lock s and the table tb
-abbrev pub Effect : {S : Type 0} (places : S → List Place) (pair : S → Option (ℕ × ℕ)) → Call → ℕ → Result Answer Refusal → S → Table → S → Table → Type 0
-Effect places pair Lock w r s tb s' tb' = Obeys places pair locking w r s s' × (tb' ≡ tb)
-Effect places pair Unlock w r s tb s' tb' = Obeys places pair unlocking w r s s' × (tb' ≡ unlocked r w tb)
-Effect places pair Step w r s tb s' tb' = Obeys places pair stepping w r s s' × (tb' ≡ tb)
-Effect places pair (Look c g) w r s tb s' tb' = (s' ≡ s) × ((tb', r) ≡ looked (place_at (places s) w) w c g tb)
-Effect places pair Enter w r s tb s' tb' = (s' ≡ s) × ((tb', r) ≡ entered (place_at (places s) w) w tb)
+abbrev pub Effect : {S : Type 0} (lock : Ghosts S) → Call → ℕ → Result Answer Refusal → S → Table → S → Table → Type 0
+Effect lock Lock w r s tb s' tb' = Obeys lock.places lock.pair locking w r s s' × (tb' ≡ tb)
+Effect lock Unlock w r s tb s' tb' = Obeys lock.places lock.pair unlocking w r s s' × (tb' ≡ unlocked r w tb)
+Effect lock Step w r s tb s' tb' = Obeys lock.places lock.pair stepping w r s s' × (tb' ≡ tb)
+Effect lock (Look c g) w r s tb s' tb' = (s' ≡ s) × ((tb', r) ≡ looked (place_at (lock.places s) w) w c g tb)
+Effect lock Enter w r s tb s' tb' = (s' ≡ s) × ((tb', r) ≡ entered (place_at (lock.places s) w) w tb)
 
 -- a call on a book
-abbrev pub Called : {S : Type 0} (places : S → List Place) (pair : S → Option (ℕ × ℕ)) → Call → ℕ → Result Answer Refusal → Book S → Book S → Type 0
-Called places pair c w r before after = Effect places pair c w r before.lock before.table after.lock after.table
+abbrev pub Called : {S : Type 0} (lock : Ghosts S) → Call → ℕ → Result Answer Refusal → Book S → Book S → Type 0
+Called lock c w r before after = Effect lock c w r before.lock before.table after.lock after.table
 
 -- the book has this history, newest first: it was made new, and then each call was made on it
-pub data Life {S : Type 0} (places : S → List Place) (pair : S → Option (ℕ × ℕ)) : History → Book S → Type 0 where
-  made : {b : Book S} → places b.lock ≡ replicate 16 Out → b.table ≡ new_table → Life places pair [] b
-  then : {h : History} {b : Book S} {t : Turn} (b' : Book S) → Life places pair h b → t.due ≡ pair b.lock → Called places pair t.call t.worker t.answer b b' → Life places pair (t ∷ h) b'
+pub data Life {S : Type 0} (lock : Ghosts S) : History → Book S → Type 0 where
+  made : {b : Book S} → lock.places b.lock ≡ replicate 16 Out → b.table ≡ new_table → Life lock [] b
+  then : {h : History} {b : Book S} {t : Turn} (b' : Book S) → Life lock h b → t.due ≡ lock.pair b.lock → Called lock t.call t.worker t.answer b b' → Life lock (t ∷ h) b'

@@ -1,6 +1,6 @@
 -- What a run of events on a new book is.
-use Rattle.std.specs.Prelude.{◌≡◌, ℕ, List, Option, Result}
-use Rattle.lock.specs.declared.place.Place.{Place}
+use Rattle.std.specs.Prelude.{◌≡◌, List, Result}
+use Rattle.lock.specs.declared.interface.Lock.{Ghosts}
 use Rattle.lock.specs.declared.answer.Answer.{Answer}
 use Rattle.lock.specs.declared.refusal.Refusal.{Refusal}
 use Rattle.book.specs.declared.call.Event.{Event}
@@ -10,9 +10,9 @@ use Rattle.book.specs.Life.{Life}
 use Rattle.book.specs.Law.{Law}
 
 -- the book has a history with exactly these events and answers, and keeps the law
-pub record Ran {S : Type 0} (places : S → List Place) (pair : S → Option (ℕ × ℕ)) (bound : ℕ) (es : List Event) (rs : List (Result Answer Refusal)) (book : Book S) : Type 0 where
+pub record Ran {S : Type 0} (lock : Ghosts S) (es : List Event) (rs : List (Result Answer Refusal)) (book : Book S) : Type 0 where
   pub history : History
   pub asked : events_of history ≡ es
   pub answered : answers_of history ≡ rs
-  pub life : Life places pair history book
-  pub law : Law places pair bound history book
+  pub life : Life lock history book
+  pub law : Law lock history book

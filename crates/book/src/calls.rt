@@ -16,7 +16,7 @@ impl<L: Lock> Book<L> {
     // A new book over a new lock.
     #[tactic(auto, using(crate::specs::Life::made))]
     pub fn new() -> Book<L>
-        ensures { Life L.places L.pair [] result }
+        ensures { Life L.Lock [] result }
     {
         Book {
             lock: L::new(),
@@ -25,7 +25,7 @@ impl<L: Lock> Book<L> {
     }
 
     pub fn lock(&mut self, w: u8) -> Result<Answer, Refusal>
-        ensures { Called L.places L.pair Call.Lock w result self.old self.new }
+        ensures { Called L.Lock Call.Lock w result self.old self.new }
     {
         self.lock.lock(w)
     }
@@ -33,7 +33,7 @@ impl<L: Lock> Book<L> {
     // An accepted unlock takes the worker's slip away.
     #[tactic(auto, using(crate::proofs::Safe::safe_put))]
     pub fn unlock(&mut self, w: u8) -> Result<Answer, Refusal>
-        ensures { Called L.places L.pair Call.Unlock w result self.old self.new }
+        ensures { Called L.Lock Call.Unlock w result self.old self.new }
     {
         let answer = self.lock.unlock(w)?;
         self.table.put(w, None);
@@ -41,7 +41,7 @@ impl<L: Lock> Book<L> {
     }
 
     pub fn step(&mut self, w: u8) -> Result<Answer, Refusal>
-        ensures { Called L.places L.pair Call.Step w result self.old self.new }
+        ensures { Called L.Lock Call.Step w result self.old self.new }
     {
         self.lock.step(w)
     }
@@ -49,7 +49,7 @@ impl<L: Lock> Book<L> {
     // Looks for a chest that is about to be entered with its grams.
     #[tactic(auto, using(crate::proofs::Safe::safe_put))]
     pub fn look(&mut self, w: u8, chest: u32, grams: u32) -> Result<Answer, Refusal>
-        ensures { Called L.places L.pair (Call.Look chest grams) w result self.old self.new }
+        ensures { Called L.Lock (Call.Look chest grams) w result self.old self.new }
     {
         self.inside(w)?;
         if grams > MOST_GRAMS {
@@ -60,7 +60,7 @@ impl<L: Lock> Book<L> {
 
     // Enters the chest that the worker looked for.
     pub fn enter(&mut self, w: u8) -> Result<Answer, Refusal>
-        ensures { Called L.places L.pair Call.Enter w result self.old self.new }
+        ensures { Called L.Lock Call.Enter w result self.old self.new }
     {
         self.inside(w)?;
         self.table.enter(w)
@@ -68,7 +68,7 @@ impl<L: Lock> Book<L> {
 
     // The call of an event.
     pub fn call(&mut self, event: Event) -> Result<Answer, Refusal>
-        ensures { Called L.places L.pair event.call event.worker result self.old self.new }
+        ensures { Called L.Lock event.call event.worker result self.old self.new }
     {
         match event.call {
             Call::Lock => self.lock(event.worker),

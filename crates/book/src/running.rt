@@ -19,7 +19,7 @@ pub fn run<L: Lock + Drop>(
 ) -> Result<Book<L>, Memory>
     ensures value { is_ok result ≡ nat_le (length events.now) (list_room answers.old) }
     ensures cases { MatchResult result
-        (λ book. ∥ Ran L.places L.pair L.farthest events.now (list_items answers.new) book ∥₁)
+        (λ book. ∥ Ran L.Lock events.now (list_items answers.new) book ∥₁)
         (λ e. (e ≡ TooShort) × (answers.new ≡ answers.old)) }
     ensures rest { KeepsRest answers.old answers.new }
 {
@@ -37,6 +37,6 @@ pub fn run<L: Lock + Drop>(
 impl<L: Lock> Book<L> {
     // Says only that the law holds of every history that the book may have: its calls so far, one by one.
     pub fn keeps_law(&self)
-        ensures { (h : History) → Life L.places L.pair h self.now → Law L.places L.pair L.farthest h self.now }
+        ensures { (h : History) → Life L.Lock h self.now → Law L.Lock h self.now }
     {}
 }

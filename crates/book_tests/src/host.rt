@@ -17,7 +17,7 @@ pub struct Turned<L> {
 }
 
 pub fn one_chest<L: Lock>(w: u8, chest: u32, grams: u32) -> Turned<L>
-    ensures { ∥ Ran L.places L.pair L.farthest
+    ensures { ∥ Ran L.Lock
         (record { worker = w; call = Call.Lock } ∷ (record { worker = w; call = Call.Step } ∷ (record { worker = w; call = Call.Look chest grams } ∷ [])))
         (result.locked ∷ (result.stepped ∷ (result.looked ∷ []))) result.book ∥₁ }
 {

@@ -13,37 +13,37 @@ pub struct BookProxy<L> {
 
 impl<L: Lock> BookProxy<L> {
     pub fn new() -> BookProxy<L>
-        ensures { Life L.Lock.places L.Lock.pair [] result.inner }
+        ensures { Life L.Lock [] result.inner }
     {
         BookProxy { inner: Book::new() }
     }
 
     pub fn lock(&mut self, w: u8) -> Result<Answer, Refusal>
-        ensures { Called L.Lock.places L.Lock.pair Call.Lock w result self.old.inner self.new.inner }
+        ensures { Called L.Lock Call.Lock w result self.old.inner self.new.inner }
     {
         self.inner.lock(w)
     }
 
     pub fn unlock(&mut self, w: u8) -> Result<Answer, Refusal>
-        ensures { Called L.Lock.places L.Lock.pair Call.Unlock w result self.old.inner self.new.inner }
+        ensures { Called L.Lock Call.Unlock w result self.old.inner self.new.inner }
     {
         self.inner.unlock(w)
     }
 
     pub fn step(&mut self, w: u8) -> Result<Answer, Refusal>
-        ensures { Called L.Lock.places L.Lock.pair Call.Step w result self.old.inner self.new.inner }
+        ensures { Called L.Lock Call.Step w result self.old.inner self.new.inner }
     {
         self.inner.step(w)
     }
 
     pub fn look(&mut self, w: u8, chest: u32, grams: u32) -> Result<Answer, Refusal>
-        ensures { Called L.Lock.places L.Lock.pair (Call.Look chest grams) w result self.old.inner self.new.inner }
+        ensures { Called L.Lock (Call.Look chest grams) w result self.old.inner self.new.inner }
     {
         self.inner.look(w, chest, grams)
     }
 
     pub fn enter(&mut self, w: u8) -> Result<Answer, Refusal>
-        ensures { Called L.Lock.places L.Lock.pair Call.Enter w result self.old.inner self.new.inner }
+        ensures { Called L.Lock Call.Enter w result self.old.inner self.new.inner }
     {
         self.inner.enter(w)
     }

@@ -2,6 +2,7 @@
 use Rattle.std.proofs.Common.{◌≡◌, ℕ, ◌+◌, ◌<◌, ◌≤◌, true, false, ◌&&◌, ltb, List, length, Some, None, Option, Result, sym, ap, ◌∙◌, ⊎_elim, arith}
 use Rattle.std.proofs.lemmas.List.{get_or_past}
 use Rattle.std.proofs.lemmas.Bool.{cases_eq, cases_lt, false≢true, and_from, and_parts, lt-ltb}
+use Rattle.lock.specs.declared.interface.Lock.{Ghosts}
 use Rattle.lock.specs.declared.place.Place.{Place}
 use Rattle.lock.specs.declared.place.Place.TheVariants.{Out, Inside}
 use Rattle.lock.specs.declared.answer.Answer.{Answer}
@@ -34,10 +35,10 @@ inside_same : (o : Option ℕ) (f g : ℕ → Place) → ((w : ℕ) → f w ≡ 
 inside_same None f g e h = λ w at. h w (e w ∙ at)
 inside_same (Some w) f g e h = sym (e w) ∙ h
 
-pub ended : {S : Type 0} (places : S → List Place) (pair : S → Option (ℕ × ℕ)) (bound : ℕ) (es : List Event) (rs : List (Result Answer Refusal)) (b : Book S) (e : Ending)
-    → IsInside e.inside (place_at (places b.lock)) → e.chests ≡ length (records_of b.table) → e.grams ≡ b.table.weight
-    → Ran places pair bound es rs b → Ended places pair bound es rs e
-ended places pair bound es rs b e inside chests grams ran = record {
+pub ended : {S : Type 0} (lock : Ghosts S) (es : List Event) (rs : List (Result Answer Refusal)) (b : Book S) (e : Ending)
+    → IsInside e.inside (place_at (lock.places b.lock)) → e.chests ≡ length (records_of b.table) → e.grams ≡ b.table.weight
+    → Ran lock es rs b → Ended lock es rs e
+ended lock es rs b e inside chests grams ran = record {
   book = b;
   ran = ran;
   inside = inside_same e.inside _ _ ran.law.agrees.places inside;

@@ -18,7 +18,7 @@ use transcript::Ending;
 
 // Whether the worker is inside.
 fn is_inside<L: Lock>(book: &Book<L>, w: u8) -> bool
-    ensures { result ≡ (nat_lt w 16 && inside (place_at (L.Lock.places book.now.lock) w)) }
+    ensures { result ≡ (nat_lt w 16 && inside (place_at (L.places book.now.lock) w)) }
 {
     match book.place(w) {
         Ok(place) => matches!(place, Place::Inside),
@@ -28,7 +28,7 @@ fn is_inside<L: Lock>(book: &Book<L>, w: u8) -> bool
 
 // Who is inside.
 fn inside_of<L: Lock>(book: &Book<L>) -> Option<u8>
-    ensures { IsInside result (place_at (L.Lock.places book.now.lock)) }
+    ensures { IsInside result (place_at (L.places book.now.lock)) }
 {
     for w in 0..16u8 {
         if is_inside(book, w) {
@@ -45,7 +45,7 @@ pub fn run_over<L: Lock + Drop>(
 ) -> Result<Ending, Memory>
     ensures value { is_ok result ≡ nat_le (length events.now) (list_room answers.old) }
     ensures cases { MatchResult result
-        (λ e. ∥ Ended L.Lock.places L.Lock.pair L.Lock.farthest events.now (list_items answers.new) e ∥₁)
+        (λ e. ∥ Ended L.Lock events.now (list_items answers.new) e ∥₁)
         (λ e. (e ≡ TooShort) × (answers.new ≡ answers.old)) }
     ensures memory { drop (list_len answers.new) (list_memory answers.new) ≡ drop (list_len answers.new) (list_memory answers.old) }
     ensures same { lender answers.new ≡ lender answers.old }

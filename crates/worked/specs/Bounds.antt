@@ -1,10 +1,10 @@
 -- The bounds that the rules of the kinds name.
 use Rattle.std.specs.Prelude.{ℕ, List, [], ◌∷◌}
-use Rattle.tas.specs.contracts.TasLock.TheImpl as tas
-use Rattle.ticket.specs.contracts.TicketLock.TheImpl as ticket
-use Rattle.array.specs.contracts.ArrayLock.TheImpl as array
-use Rattle.mcs.specs.contracts.McsLock.TheImpl as mcs
-use Rattle.clh.specs.contracts.ClhLock.TheImpl as clh
+use Rattle.tas.specs.contracts.words.WordsAlgorithm.TheImpl as tas
+use Rattle.ticket.specs.contracts.words.WordsAlgorithm.TheImpl as ticket
+use Rattle.array.specs.contracts.words.WordsAlgorithm.TheImpl as array
+use Rattle.mcs.specs.contracts.words.WordsAlgorithm.TheImpl as mcs
+use Rattle.clh.specs.contracts.words.WordsAlgorithm.TheImpl as clh
 
 abbrev pub ruled : List ℕ
-ruled = (tas.ghosts).farthest ∷ (ticket.ghosts).farthest ∷ (array.ghosts).farthest ∷ (mcs.ghosts).farthest ∷ (clh.ghosts).farthest ∷ []
+ruled = (tas.ghosts).BOUND ∷ (ticket.ghosts).BOUND ∷ (array.ghosts).BOUND ∷ (mcs.ghosts).BOUND ∷ (clh.ghosts).BOUND ∷ []

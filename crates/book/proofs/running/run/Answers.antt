@@ -23,7 +23,7 @@ loop-event-preserved g c =
     let pushed = c.push.ensures in
     let room : list_len before < list_room before = omega (arith, inv.counted, inv.room) in
     record {
-      lived = ∥∥₁_map inv.lived (lived_more g.L.Lock.places g.L.Lock.pair c.args.events.now c.loop-event.event-index _ _ _ c.call.result _ _ c.loop-event-test.true c.call.ensures (pushed.items room));
+      lived = ∥∥₁_map inv.lived (lived_more g.L.Lock c.args.events.now c.loop-event.event-index _ _ _ c.call.result _ _ c.loop-event-test.true c.call.ensures (pushed.items room));
       counted = omega (arith, pushed.len room, inv.counted);
       room = omega (arith, inv.room, room_push before after c.call.result (pushed.memory room));
       rest = rest_push before after c.call.result (pushed.memory room) _ (pushed.len room) pushed.same inv.rest;
@@ -38,6 +38,6 @@ returns-in_err-push g c =
 pub returns : goal.returns
 returns g c = record {
   value = search rules;
-  cases = ∥∥₁_map c.loop-event.invariant.lived (ran g.L.Lock.places g.L.Lock.pair g.L.Lock.farthest g.met.L.Lock.sound _ _ _ _ (take_all c.loop-event.event-index c.args.events.now c.loop-event-test.false));
+  cases = ∥∥₁_map c.loop-event.invariant.lived (ran g.L.Lock g.met.L.Lock.sound _ _ _ _ (take_all c.loop-event.event-index c.args.events.now c.loop-event-test.false));
   rest = c.loop-event.invariant.rest;
 }

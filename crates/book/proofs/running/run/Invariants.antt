@@ -5,7 +5,7 @@ use Rattle.book.proofs.running.run.Given as goal
 
 abbrev pub invariant-loop-event : goal.invariant-loop-event
 invariant-loop-event g l = record {
-  lived : ∥ Lived g.L.Lock.places g.L.Lock.pair (take l.event-index l.events) (list_items l.answers) l.book ∥₁;
+  lived : ∥ Lived g.L.Lock (take l.event-index l.events) (list_items l.answers) l.book ∥₁;
   counted : list_len l.answers ≡ l.event-index;
   room : length l.events ≤ list_room l.answers;
   rest : KeepsRest l.fn.answers l.answers;

@@ -8,7 +8,7 @@ returns g c =
     let r = c.in_ok-book.ensures in
     record {
       value = r.value;
-      cases = ∥∥₁_map r.cases (ended g.L.Lock.places g.L.Lock.pair g.L.Lock.farthest _ _ c.in_ok-book.book _ c.inside_of-inside.ensures (ap length c.records-chests.ensures) c.weight-grams.ensures);
+      cases = ∥∥₁_map r.cases (ended g.L.Lock _ _ c.in_ok-book.book _ c.inside_of-inside.ensures (ap length c.records-chests.ensures) c.weight-grams.ensures);
       memory = r.rest.memory;
       same = r.rest.same;
     }
