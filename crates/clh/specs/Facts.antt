@@ -107,6 +107,5 @@ pub record Chained (tail : ℕ) (node : ℕ → Node) (own : ℕ → ℕ) (label
 abbrev pub Ordered : Words → Type 0
 Ordered s = (c : Chain) × Chained s.tail (node s) (own s) (label s) c
 
--- some line is chained so
-abbrev pub Lined : Words → Type 0
-Lined s = ∥ Ordered s ∥₁
+abbrev pub Holds : Words → Type 0
+Holds s = Sixteen s × Ordered s
