@@ -22,9 +22,9 @@ use Rattle.clh.specs.declared.words.Label.{Label}
 use Rattle.clh.specs.declared.words.Label.TheVariants.{Out, W0, W1, W2, W3, Inside, X0, X1}
 use Rattle.clh.specs.declared.words.Node.{Node}
 use Rattle.clh.specs.declared.words.Words.{Words}
-use Rattle.clh.specs.Accesses.{new_words, blank, label, place_of, own, node, set_node, put, before, mark, access, locked, unlocked, stepped}
+use Rattle.clh.specs.Accesses.{new_words, blank, label, place_of, own, node, put, before, mark, access, locked, unlocked, stepped}
 use Rattle.clh.specs.Distance.{distance_at}
-use Rattle.clh.specs.Facts.{Sixteen, queued, ahead, Marked, Chain, Stands, Chained, Holds}
+use Rattle.clh.specs.Facts.{Sixteen, queued, ahead, Chain, Stands, Chained, Holds}
 use Rattle.clh.proofs.Keeps.{with_wait, with_prev, standing, longer, shorter, keep_lock, keep_unlock, keep_W0, keep_W1, keep_W2, keep_W3, keep_X0, keep_X1}
 use Rattle.clh.proofs.Nearing.{distances, fitting, some, on_wait, on_W0, on_W1, on_W2, on_X0, on_X1}
 
@@ -33,34 +33,16 @@ abbrev pub distance_by : Words → (ℕ → Label) → ℕ → Option ℕ
 distance_by s L = distances s.tail (node s) L
 
 inside_is : (l : Label) → place_of l ≡ places.Inside → l ≡ Inside
-inside_is Out e = grind (arith, e)
-inside_is W0 e = grind (arith, e)
-inside_is W1 e = grind (arith, e)
-inside_is (W2 p) e = grind (arith, e)
-inside_is (W3 p) e = grind (arith, e)
 inside_is Inside e = refl
-inside_is (X0 p) e = grind (arith, e)
-inside_is (X1 p) e = grind (arith, e)
+inside_is _ e = grind (arith, e)
 
 out_is : (l : Label) → place_of l ≡ places.Out → l ≡ Out
 out_is Out e = refl
-out_is W0 e = grind (arith, e)
-out_is W1 e = grind (arith, e)
-out_is (W2 p) e = grind (arith, e)
-out_is (W3 p) e = grind (arith, e)
-out_is Inside e = grind (arith, e)
-out_is (X0 p) e = grind (arith, e)
-out_is (X1 p) e = grind (arith, e)
+out_is _ e = grind (arith, e)
 
 -- a worker in the line, and what the facts say of it
 in_line : (s : Words) (f : Holds s) (w : ℕ) → queued (label s w) ≡ true → w < 16
 in_line s f w q = (f.1.1.order.within w q).0
-
-shown : (l : Label) (prev : Option ℕ) (q : ℕ) → l ≡ Inside → Marked l prev q → option_is_some prev ≡ true
-shown l prev q e m = let M : Label → Type 0 = λ x. Marked x prev q in ap option_is_some (subst M e m)
-
-unshown : (l : Label) (prev : Option ℕ) (q : ℕ) → l ≡ Out → Marked l prev q → option_is_some prev ≡ false
-unshown l prev q e m = let M : Label → Type 0 = λ x. Marked x prev q in ap option_is_some (subst M e m)
 
 pub kind : Kind label place_of distance_by mark 5 Holds
 kind = record {
@@ -71,8 +53,8 @@ kind = record {
       let i = inside_is (label s v) a in
       let j = inside_is (label s w) b in
       same_rank h.order v w (ap queued i) (ap queued j) ((h.stands v (in_line s f v (ap queued i))).front (ap ahead i) ∙ sym ((h.stands w (in_line s f w (ap queued j))).front (ap ahead j)));
-  held = λ s f w lt at. shown (label s w) (before s w) _ (inside_is (label s w) at) (f.1.1.stands w lt).marked;
-  free = λ s f w lt at. unshown (label s w) (before s w) _ (out_is (label s w) at) (f.1.1.stands w lt).marked;
+  held = λ s f w lt at. ap option_is_some (standing f.1.1 w lt Inside (inside_is (label s w) at)).marked;
+  free = λ s f w lt at. ap option_is_some (standing f.1.1 w lt Out (out_is (label s w) at)).marked;
 }
 
 -- ## The calls
@@ -102,21 +84,17 @@ module _ (s : Words) (w : ℕ) (ok : ∥ Holds s ∥₁) where
         (λ f free free' waits. subst (λ m. Onward w (distance_by s (label s)) (distances x.tail m (upd (label s) w l))) (sym (ns f)) (on f free free' waits))
 
   module _ (lt : w < 16) where
-    -- a node is written
-    node_set : (n : ℕ) (x : Node) → n < 17 → node (set_node s n x) ≡ upd (node s) n x
-    node_set n x l = read_with s.nodes n x blank l
-
     own_in : Holds s → own s w < 17
     own_in f = (f.1.1.stands w lt).own_in
 
     step_at : (l : Label) → label s w ≡ l → Good stepping (access l s w)
     step_at Out at = labelled.refused kind s ok stepping w lt places.Out (ap place_of at) Idle (refl, refl)
     step_at W0 at = goes (access W0 s w).0 W1 refl lt stepping Done W0 (with_wait (node s) (own s w) true) (own s) at refl sixteen.1 refl
-        (λ f. node_set (own s w) _ (own_in f)) (λ f. (f.1.0, keep_W0 f.1.1 w lt at)) (λ f n m z. on_W0 f.1.1 w lt at)
+        (λ f. read_with s.nodes (own s w) _ blank (own_in f)) (λ f. (f.1.0, keep_W0 f.1.1 w lt at)) (λ f n m z. on_W0 f.1.1 w lt at)
     step_at W1 at = goes (access W1 s w).0 (W2 s.tail) refl lt stepping Done W1 (node s) (own s) at refl sixteen.1 refl
         (λ f. refl) (λ f. (longer f.1.1 w lt, keep_W1 f.1.1 w lt at)) (λ f n m z. on_W1 f.1.1 w lt at)
     step_at (W2 p) at = goes (access (W2 p) s w).0 (W3 p) refl lt stepping Done (W2 p) (with_prev (node s) (own s w) (Some p)) (own s) at refl sixteen.1 refl
-        (λ f. node_set (own s w) _ (own_in f)) (λ f. (f.1.0, keep_W2 f.1.1 w lt p at)) (λ f n m z. on_W2 f.1.1 w lt p at)
+        (λ f. read_with s.nodes (own s w) _ blank (own_in f)) (λ f. (f.1.0, keep_W2 f.1.1 w lt p at)) (λ f n m z. on_W2 f.1.1 w lt p at)
     step_at (W3 p) at = by_flag (node s p).wait refl
       where
         by_flag : (b : Bool) → (node s p).wait ≡ b → Good stepping (cond {A = Outcome Words} b (s, Ok Done) (put s w Inside, Ok Entered))
@@ -125,30 +103,23 @@ module _ (s : Words) (w : ℕ) (ok : ∥ Holds s ∥₁) where
             (λ f. refl) (λ f. (f.1.0, keep_W3 f.1.1 w lt p at e)) (λ f n m z. absurd (m w lt (ap place_of (upd_same (label s) w Inside))))
     step_at Inside at = labelled.refused kind s ok stepping w lt places.Inside (ap place_of at) Idle (refl, refl)
     step_at (X0 p) at = goes (access (X0 p) s w).0 (X1 p) refl lt stepping Done (X0 p) (with_wait (node s) (own s w) false) (own s) at refl sixteen.1 refl
-        (λ f. node_set (own s w) _ (own_in f)) (λ f. (shorter f.1.1 w lt p, keep_X0 f.1.1 w lt p at)) (λ f n m z. on_X0 f.1.1 w lt p at m z)
+        (λ f. read_with s.nodes (own s w) _ blank (own_in f)) (λ f. (shorter f.1.1 w lt p, keep_X0 f.1.1 w lt p at)) (λ f n m z. on_X0 f.1.1 w lt p at m z)
     step_at (X1 p) at = goes (access (X1 p) s w).0 Out refl lt stepping Left (X1 p) (with_prev (node s) p None) (upd (own s) w p) at refl (length-set s.own w p ∙ sixteen.1)
         (read_set s.own w p 0 (omega (arith, sixteen.1)))
-        (λ f. node_set p _ (standing f.1.1 w lt (X1 p) at).kept_in) (λ f. (f.1.0, keep_X1 f.1.1 w lt p at)) (λ f n m z. on_X1 f.1.1 w lt p at)
+        (λ f. read_with s.nodes p _ blank (standing f.1.1 w lt (X1 p) at).kept_in) (λ f. (f.1.0, keep_X1 f.1.1 w lt p at)) (λ f n m z. on_X1 f.1.1 w lt p at)
 
-  seen : (l : Label) → (w < 16 → Holds s → (c : Chain) × Chained s.tail (node s) (own s) (upd (label s) w l) c) → w < 16 → Holds s → Holds (put s w l)
-  seen l keep lt f = let r = keep lt f in
+  seen : (l : Label) → w < 16 → (Holds s → (c : Chain) × Chained s.tail (node s) (own s) (upd (label s) w l) c) → Holds s → Holds (put s w l)
+  seen l lt keep f = let r = keep f in
       ((length-set s.at w l ∙ sixteen.0, sixteen.1), (r.0, subst (λ L. Chained s.tail (node s) (own s) L r.0) (sym (labels (put s w l) l refl lt)) r.1))
 
   pub lock_good : Good locking (locked s w)
   lock_good = labelled.locked kind s ok w (put s w W0) W0 (labels (put s w W0) W0 refl) refl
-      (λ lt at. seen W0 (λ l f. (f.1.0, keep_lock f.1.1 w l (out_is (label s w) at))) lt)
+      (λ lt at. seen W0 lt (λ f. (f.1.0, keep_lock f.1.1 w lt (out_is (label s w) at))))
       (λ v ne. ap (distance_at s.tail (node s)) (upd_other (label s) w v W0 ne))
 
   pub unlock_good : Good unlocking (unlocked s w)
-  unlock_good = labelled.unlocked kind s ok w (put s w (X0 p)) (X0 p) (labels (put s w (X0 p)) (X0 p) refl) refl
-      (λ lt at. seen (X0 p) (λ l f. (f.1.0, keep_unlock f.1.1 w l p (inside_is (label s w) at) (is_some (before s w) (kind.held s f w l at)))) lt)
-    where
-      p : ℕ
-      p = unwrap_or (before s w) 0
-
-      is_some : (o : Option ℕ) → option_is_some o ≡ true → o ≡ Some (unwrap_or o 0)
-      is_some None e = absurd (false≢true e)
-      is_some (Some n) e = refl
+  unlock_good = let l : Label = X0 (unwrap_or (before s w) 0) in labelled.unlocked kind s ok w (put s w l) l (labels (put s w l) l refl) refl
+      (λ lt at. seen l lt (λ f. (f.1.0, keep_unlock f.1.1 w lt (inside_is (label s w) at))))
 
   pub step_good : Good stepping (stepped s w)
   step_good = labelled.looked kind s ok stepping w _ (λ lt. step_at lt (label s w) refl)

@@ -31,34 +31,12 @@ abbrev pub distance_by : Words → (ℕ → Label) → ℕ → Option ℕ
 distance_by s L = distances s.last (node s) L
 
 inside_is : (l : Label) → place_of l ≡ places.Inside → l ≡ Inside
-inside_is Out e = grind (arith, e)
-inside_is W0 e = grind (arith, e)
-inside_is W1 e = grind (arith, e)
-inside_is (W2 p) e = grind (arith, e)
-inside_is (W3 p) e = grind (arith, e)
-inside_is W4 e = grind (arith, e)
-inside_is W5 e = grind (arith, e)
 inside_is Inside e = refl
-inside_is X0 e = grind (arith, e)
-inside_is X1 e = grind (arith, e)
-inside_is X2 e = grind (arith, e)
-inside_is (X3 n) e = grind (arith, e)
-inside_is X4 e = grind (arith, e)
+inside_is _ e = grind (arith, e)
 
 out_is : (l : Label) → place_of l ≡ places.Out → l ≡ Out
 out_is Out e = refl
-out_is W0 e = grind (arith, e)
-out_is W1 e = grind (arith, e)
-out_is (W2 p) e = grind (arith, e)
-out_is (W3 p) e = grind (arith, e)
-out_is W4 e = grind (arith, e)
-out_is W5 e = grind (arith, e)
-out_is Inside e = grind (arith, e)
-out_is X0 e = grind (arith, e)
-out_is X1 e = grind (arith, e)
-out_is X2 e = grind (arith, e)
-out_is (X3 n) e = grind (arith, e)
-out_is X4 e = grind (arith, e)
+out_is _ e = grind (arith, e)
 
 -- a worker in the line
 in_line : (s : Words) (f : Holds s) (w : ℕ) → queued (label s w) ≡ true → w < 16
@@ -107,10 +85,6 @@ module _ (s : Words) (w : ℕ) (ok : ∥ Holds s ∥₁) where
   at_label l = answered (answer_of l) s (moved (access l s w) w)
 
   module _ (lt : w < 16) where
-    -- a node is written
-    node_set : (n : ℕ) (x : Node) → n < 16 → node (set_node s n x) ≡ upd (node s) n x
-    node_set n x l = read_with s.nodes n x blank l
-
     -- an access that writes the own label alone
     passes : (a : Answer) (k l : Label) → label s w ≡ k → Leads stepping (place_of k) (Ok a) (place_of l)
         → ((f : Holds s) → Chained s.last (node s) (upd (label s) w l) f.1.0)
@@ -122,7 +96,7 @@ module _ (s : Words) (w : ℕ) (ok : ∥ Holds s ∥₁) where
         → ((f : Holds s) → (o : Line) × Chained s.last (upd (node s) n x) (upd (label s) w l) o)
         → ((f : Holds s) → Free place_of (upd (label s) w l) → Onward w (distance_by s (label s)) (distances s.last (upd (node s) n x) (upd (label s) w l)))
         → Good stepping (put (set_node s n x) w l, Ok a)
-    writes a k l n x at leads in-it keep on = goes (put (set_node s n x) w l) l refl lt stepping a k (upd (node s) n x) at leads (λ f. node_set n x (in-it f)) keep (λ f free m z. on f m)
+    writes a k l n x at leads in-it keep on = goes (put (set_node s n x) w l) l refl lt stepping a k (upd (node s) n x) at leads (λ f. read_with s.nodes n x blank (in-it f)) keep (λ f free m z. on f m)
 
     step_at : (l : Label) → label s w ≡ l → Good stepping (at_label l)
     step_at Out at = labelled.refused kind s ok stepping w lt places.Out (ap place_of at) Idle (refl, refl)
@@ -169,8 +143,8 @@ module _ (s : Words) (w : ℕ) (ok : ∥ Holds s ∥₁) where
     step_at (X3 n) at = writes Done (X3 n) X4 n _ at refl (λ f. (heir f.1.1 w lt n at).2) (λ f. (handed f.1.0, keep_X3 f.1.1 w lt n at)) (λ f m. on_X3 f.1.1 w lt n at)
     step_at X4 at = writes Left X4 Out w _ at refl (λ f. lt) (λ f. (f.1.0, keep_X4 f.1.1 w lt at)) (λ f m. on_X4 f.1.1 w lt at)
 
-  seen : (l : Label) → (w < 16 → (f : Holds s) → Chained s.last (node s) (upd (label s) w l) f.1.0) → w < 16 → Holds s → Holds (put s w l)
-  seen l keep lt f = (length-set s.at w l ∙ sixteen, (f.1.0, subst (λ L. Chained s.last (node s) L f.1.0) (sym (labels (put s w l) l refl lt)) (keep lt f)))
+  seen : (l : Label) → w < 16 → ((f : Holds s) → Chained s.last (node s) (upd (label s) w l) f.1.0) → Holds s → Holds (put s w l)
+  seen l lt keep f = (length-set s.at w l ∙ sixteen, (f.1.0, subst (λ L. Chained s.last (node s) L f.1.0) (sym (labels (put s w l) l refl lt)) (keep f)))
 
   pub lock_good : Good locking (locked s w)
   lock_good = labelled.looked kind s ok locking w _ (λ lt. by_place lt (place s w) refl)
@@ -184,7 +158,7 @@ module _ (s : Words) (w : ℕ) (ok : ∥ Holds s ∥₁) where
 
   pub unlock_good : Good unlocking (unlocked s w)
   unlock_good = labelled.unlocked kind s ok w (put s w X0) X0 (labels (put s w X0) X0 refl) refl
-      (λ lt at. seen X0 (λ l f. keep_unlock f.1.1 w l (inside_is (label s w) at)) lt)
+      (λ lt at. seen X0 lt (λ f. keep_unlock f.1.1 w lt (inside_is (label s w) at)))
 
   pub step_good : Good stepping (stepped s w)
   step_good = labelled.looked kind s ok stepping w _ (λ lt. step_at lt (label s w) refl)
