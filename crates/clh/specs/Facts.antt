@@ -10,7 +10,7 @@ use Rattle.clh.specs.declared.words.Words.{Words}
 use Rattle.clh.specs.Accesses.{label, own, node}
 
 abbrev pub Sixteen : Words → Type 0
-Sixteen s = (length s.at ≡ 16) × (length s.own ≡ 16)
+Sixteen s = length s.workers ≡ 16
 
 -- the labels of the workers in the line
 abbrev pub queued : Label → Bool

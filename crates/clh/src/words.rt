@@ -1,7 +1,7 @@
 ghost use Rattle.std.specs.Prelude.{◌≡◌};
 ghost use Rattle.std.specs.Option.{unwrap_or};
 ghost use Rattle.clh.specs.declared.words.Label.TheVariants.{W0, X0};
-ghost use Rattle.clh.specs.Accesses.{place_of as place_at, label as label_of, own as own_of, before as before_of, node, set_wait, set_prev};
+ghost use Rattle.clh.specs.Accesses.{place_of as place_at, outside as outside_with, worker as worker_of, before as before_of, node, set_wait, set_prev, put as put_label};
 
 use lock::{Algorithm, Answer, Place, Refusal, Ruled, item_or, put_item};
 use rows::Rows;
@@ -39,13 +39,29 @@ pub struct Node {
     pub prev: Option<u8>,
 }
 
-// The shared words, and each worker's own node and label.
+#[derive(Clone, Copy)]
+pub struct Worker {
+    pub own: u8,
+    pub label: Label,
+}
+
+impl Worker {
+    fn outside(own: u8) -> Worker
+        ensures { result ≡ outside_with own }
+    {
+        Worker {
+            own,
+            label: Label::Out,
+        }
+    }
+}
+
+// The shared words, and each worker with its own node and label.
 #[derive(Drop)]
 pub struct Words {
     pub tail: u8,
     pub nodes: Rows<Node, 17>,
-    pub own: [u8; 16],
-    pub at: [Label; 16],
+    pub workers: [Worker; 16],
 }
 
 const BLANK: Node = Node {
@@ -54,10 +70,18 @@ const BLANK: Node = Node {
 };
 
 impl Words {
-    fn label(&self, w: u8) -> Label
-        ensures { result ≡ label_of self.now w }
+    // Whoever is not among the sixteen is outside.
+    fn worker(&self, w: u8) -> Worker
+        ensures { result ≡ worker_of self.now w }
     {
-        item_or(&self.at, w, Label::Out)
+        item_or(&self.workers, w, Worker::outside(0))
+    }
+
+    fn put(&mut self, w: u8, label: Label)
+        ensures { self.new ≡ put_label self.old w label }
+    {
+        let own = self.worker(w).own;
+        put_item(&mut self.workers, w, Worker { own, label });
     }
 
     fn node(&self, n: u8) -> Node
@@ -66,18 +90,11 @@ impl Words {
         item_or(&self.nodes.items, n, BLANK)
     }
 
-    // The worker's own node.
-    fn own(&self, w: u8) -> u8
-        ensures { result ≡ own_of self.now w }
-    {
-        item_or(&self.own, w, 0)
-    }
-
     // The mark: `prev` of the own node, which the worker keeps.
     fn before(&self, w: u8) -> Option<u8>
         ensures { result ≡ before_of self.now w }
     {
-        self.node(self.own(w)).prev
+        self.node(self.worker(w).own).prev
     }
 
     #[tactic(auto, using(rows::proofs::Lending::with_past))]
@@ -126,11 +143,11 @@ impl Algorithm for Words {
     ghost Holds = { Holds };
 
     fn place_of(&self, w: u8) -> Place {
-        self.label(w).place()
+        self.worker(w).label.place()
     }
 
     fn distance_of(&self, w: u8) -> Option<u32> {
-        match self.label(w) {
+        match self.worker(w).label {
             Label::X0(_) => Some(5),
             Label::W0 if !self.node(self.tail).wait => Some(4),
             Label::W1 if !self.node(self.tail).wait => Some(3),
@@ -149,53 +166,51 @@ impl Algorithm for Words {
         Words {
             tail: 16,
             nodes: Rows::new([BLANK; 17]),
-            own: array::from_fn(|i| i as u8),
-            at: [Label::Out; 16],
+            workers: array::from_fn(|n| Worker::outside(n as u8)),
         }
     }
 
     fn come(&mut self, w: u8) {
-        put_item(&mut self.at, w, Label::W0);
+        self.put(w, Label::W0);
     }
 
     fn leave(&mut self, w: u8) {
         let pred = self.before(w).unwrap_or(0);
-        put_item(&mut self.at, w, Label::X0(pred));
+        self.put(w, Label::X0(pred));
     }
 
     fn access(&mut self, w: u8) -> Result<Answer, Refusal> {
-        let own = self.own(w);
-        match self.label(w) {
+        let Worker { own, label } = self.worker(w);
+        match label {
             Label::W0 => {
                 self.set_wait(own, true);
-                put_item(&mut self.at, w, Label::W1);
+                self.put(w, Label::W1);
                 Ok(Answer::Done)
             }
             Label::W1 => {
                 let pred = self.tail;
                 self.tail = own;
-                put_item(&mut self.at, w, Label::W2(pred));
+                self.put(w, Label::W2(pred));
                 Ok(Answer::Done)
             }
             Label::W2(pred) => {
                 self.set_prev(own, Some(pred));
-                put_item(&mut self.at, w, Label::W3(pred));
+                self.put(w, Label::W3(pred));
                 Ok(Answer::Done)
             }
             Label::W3(pred) if self.node(pred).wait => Ok(Answer::Done),
             Label::W3(_) => {
-                put_item(&mut self.at, w, Label::Inside);
+                self.put(w, Label::Inside);
                 Ok(Answer::Entered)
             }
             Label::X0(pred) => {
                 self.set_wait(own, false);
-                put_item(&mut self.at, w, Label::X1(pred));
+                self.put(w, Label::X1(pred));
                 Ok(Answer::Done)
             }
             Label::X1(pred) => {
-                put_item(&mut self.own, w, pred);
                 self.set_prev(pred, None);
-                put_item(&mut self.at, w, Label::Out);
+                put_item(&mut self.workers, w, Worker::outside(pred));
                 Ok(Answer::Left)
             }
             Label::Out | Label::Inside => Err(Refusal::Idle),

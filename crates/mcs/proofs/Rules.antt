@@ -68,16 +68,20 @@ module _ (s : Words) (w : ℕ) (ok : ∥ Holds s ∥₁) where
     labels : label x ≡ upd (label s) w l
     labels = ap (λ a v. get_or a v Out) to ∙ read_set s.at w l Out (omega (arith, sixteen))
 
-    -- an access that leaves x, with its nodes as seen
+    -- what holds of x, with its nodes as seen
+    holding : (nodes : ℕ → Node) → node x ≡ nodes → (o : Line) × Chained x.last nodes (upd (label s) w l) o → Holds x
+    holding nodes ns (o, h) = (
+      ap length to ∙ (length-set s.at w l ∙ sixteen),
+      (o, subst (λ L. Chained x.last (node x) L o) (sym labels) (subst (λ m. Chained x.last m (upd (label s) w l) o) (sym ns) h)),
+    )
+
+    -- an access that leaves x
     goes : (q : Request) (a : Answer) (k : Label) (nodes : ℕ → Node) → label s w ≡ k → Leads q (place_of k) (Ok a) (place_of l) → (Holds s → node x ≡ nodes)
         → ((f : Holds s) → (o : Line) × Chained x.last nodes (upd (label s) w l) o)
         → ((f : Holds s) → Free place_of (label s) → Free place_of (upd (label s) w l) → Waits place_of (upd (label s) w l) → Onward w (distance_by s (label s)) (distances x.last nodes (upd (label s) w l)))
         → Good q (x, Ok a)
     goes q a k nodes at leads ns keep on = labelled.goes kind s ok q w lt (place_of k) (ap place_of at) x a l labels leads
-        (λ f. let r = keep f in (
-          ap length to ∙ (length-set s.at w l ∙ sixteen),
-          (r.0, subst (λ L. Chained x.last (node x) L r.0) (sym labels) (subst (λ m. Chained x.last m (upd (label s) w l) r.0) (sym (ns f)) r.1)),
-        ))
+        (λ f. holding nodes (ns f) (keep f))
         (λ f free free' waits. subst (λ m. Onward w (distance_by s (label s)) (distances x.last m (upd (label s) w l))) (sym (ns f)) (on f free free' waits))
 
   -- what a step at a label leaves
@@ -143,9 +147,6 @@ module _ (s : Words) (w : ℕ) (ok : ∥ Holds s ∥₁) where
     step_at (X3 n) at = writes Done (X3 n) X4 n _ at refl (λ f. (heir f.1.1 w lt n at).2) (λ f. (handed f.1.0, keep_X3 f.1.1 w lt n at)) (λ f m. on_X3 f.1.1 w lt n at)
     step_at X4 at = writes Left X4 Out w _ at refl (λ f. lt) (λ f. (f.1.0, keep_X4 f.1.1 w lt at)) (λ f m. on_X4 f.1.1 w lt at)
 
-  seen : (l : Label) → w < 16 → ((f : Holds s) → Chained s.last (node s) (upd (label s) w l) f.1.0) → Holds s → Holds (put s w l)
-  seen l lt keep f = (length-set s.at w l ∙ sixteen, (f.1.0, subst (λ L. Chained s.last (node s) L f.1.0) (sym (labels (put s w l) l refl lt)) (keep f)))
-
   pub lock_good : Good locking (locked s w)
   lock_good = labelled.looked kind s ok locking w _ (λ lt. by_place lt (place s w) refl)
     where
@@ -158,7 +159,7 @@ module _ (s : Words) (w : ℕ) (ok : ∥ Holds s ∥₁) where
 
   pub unlock_good : Good unlocking (unlocked s w)
   unlock_good = labelled.unlocked kind s ok w (put s w X0) X0 (labels (put s w X0) X0 refl) refl
-      (λ lt at. seen X0 lt (λ f. keep_unlock f.1.1 w lt (inside_is (label s w) at)))
+      (λ lt at f. holding (put s w X0) X0 refl lt (node s) refl (f.1.0, keep_unlock f.1.1 w lt (inside_is (label s w) at)))
 
   pub step_good : Good stepping (stepped s w)
   step_good = labelled.looked kind s ok stepping w _ (λ lt. step_at lt (label s w) refl)
