@@ -6,6 +6,7 @@ use Rattle.lock.specs.declared.place.Place.TheVariants as place
 use Rattle.lock.specs.Calls.{upd}
 use Rattle.lock.proofs.Pair.{Below, SomeDistance, Fitting, Onward}
 use Rattle.lock.proofs.Labelled.{Free, Waits, upd_same, upd_other}
+use Rattle.queue.proofs.Written.{each}
 use Rattle.queue.proofs.Ordering.{same_rank}
 use Rattle.clh.specs.declared.words.Label.{Label}
 use Rattle.clh.specs.declared.words.Label.TheVariants.{Out, W0, W1, W2, W3, Inside, X0, X1}
@@ -135,12 +136,7 @@ module _ {tail : ℕ} {node : ℕ → Node} {own : ℕ → ℕ} {label : ℕ →
 
     -- a node of which only `prev` is written
     flags : (n : ℕ) (p : Option ℕ) (k : ℕ) → (with_prev node n p k).wait ≡ (node k).wait
-    flags n p k = ⊎_elim
-        (λ e. ap (λ j. (upd node n x j).wait) e ∙ (ap (λ y. y.wait) (upd_same node n x) ∙ ap (λ j. (node j).wait) (sym e)))
-        (λ ne. ap (λ y. y.wait) (upd_other node n k x ne)) (cases_eq k n)
-      where
-        x : Node
-        x = record { wait = (node n).wait; prev = p }
+    flags n p = each (λ j y. y.wait ≡ (node j).wait) node n _ refl (λ j ne. refl)
 
     pub on_W2 : (p : ℕ) → label w ≡ W2 p → Onward w far (distances tail (with_prev node (own w) (Some p)) (upd label w (W3 p)))
     on_W2 p e = on_same (with_prev node (own w) (Some p)) (W3 p) (flags (own w) (Some p) tail) (λ v q a ne k. flags (own w) (Some p) q)
