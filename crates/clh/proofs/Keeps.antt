@@ -1,6 +1,7 @@
 -- What each access does to the chain.
-use Rattle.std.proofs.Common.{◌≡◌, ℕ, ◌+◌, ◌-◌, ◌<◌, ◌≤◌, Bool, true, false, Some, None, Option, sym, refl, ap, ◌∙◌, subst, ⊎_elim, arith}
+use Rattle.std.proofs.Common.{◌≡◌, ℕ, ◌+◌, ◌-◌, ◌<◌, ◌≤◌, Bool, true, false, Some, None, Option, unwrap_or, sym, refl, ap, ◌∙◌, subst, ⊎_elim, arith}
 use Rattle.std.proofs.lemmas.Bool.{cases_lt, false≢true}
+use Rattle.lock.proofs.Small.{never}
 use Rattle.lock.specs.Calls.{upd}
 use Rattle.lock.proofs.Labelled.{upd_same, upd_other}
 use Rattle.queue.specs.Line.{Line, joined, handed}
@@ -22,56 +23,34 @@ with_prev node n p = upd node n (record { wait = (node n).wait; prev = p })
 -- ## What a label says
 
 pub link_queued : (l : Label) (p : ℕ) → link l ≡ Some p → queued l ≡ true
-link_queued Out p e = grind (arith, e)
-link_queued W0 p e = grind (arith, e)
-link_queued W1 p e = grind (arith, e)
 link_queued (W2 q) p e = refl
 link_queued (W3 q) p e = refl
-link_queued Inside p e = refl
 link_queued (X0 q) p e = refl
-link_queued (X1 q) p e = grind (arith, e)
+link_queued _ p e = never e
 
 pub ahead_queued : (l : Label) → ahead l ≡ true → queued l ≡ true
-ahead_queued Out e = e
-ahead_queued W0 e = e
-ahead_queued W1 e = e
-ahead_queued (W2 p) e = refl
-ahead_queued (W3 p) e = refl
 ahead_queued Inside e = refl
 ahead_queued (X0 p) e = refl
-ahead_queued (X1 p) e = e
+ahead_queued _ e = absurd (false≢true e)
 
 queued_shuts : (l : Label) (n : ℕ) → queued l ≡ true → (shuts l ≡ true) × (kept l n ≡ n)
-queued_shuts Out n e = absurd (false≢true e)
-queued_shuts W0 n e = absurd (false≢true e)
-queued_shuts W1 n e = absurd (false≢true e)
 queued_shuts (W2 p) n e = (refl, refl)
 queued_shuts (W3 p) n e = (refl, refl)
 queued_shuts Inside n e = (refl, refl)
 queued_shuts (X0 p) n e = (refl, refl)
-queued_shuts (X1 p) n e = absurd (false≢true e)
+queued_shuts _ n e = absurd (false≢true e)
 
 -- `prev` of a node that the worker keeps
 prev_same : (node after : ℕ → Node) (l : Label) (n q : ℕ) → after (kept l n) ≡ node (kept l n) → Marked l (node n).prev q → Marked l (after n).prev q
-prev_same node after Out n q e m = ap (λ x. x.prev) e ∙ m
-prev_same node after W0 n q e m = ap (λ x. x.prev) e ∙ m
-prev_same node after W1 n q e m = ap (λ x. x.prev) e ∙ m
-prev_same node after (W2 p) n q e m = ap (λ x. x.prev) e ∙ m
-prev_same node after (W3 p) n q e m = ap (λ x. x.prev) e ∙ m
-prev_same node after Inside n q e m = ap (λ x. x.prev) e ∙ m
-prev_same node after (X0 p) n q e m = ap (λ x. x.prev) e ∙ m
 prev_same node after (X1 p) n q e m = tt
+prev_same node after _ n q e m = ap (λ x. x.prev) e ∙ m
 
 -- the node that a worker in the line looks at
 looks_same : (l : Label) (prev : Option ℕ) (q r : ℕ) → (queued l ≡ true → q ≡ r) → Marked l prev q → Marked l prev r
-looks_same Out prev q r e m = m
-looks_same W0 prev q r e m = m
-looks_same W1 prev q r e m = m
-looks_same (W2 p) prev q r e m = m
 looks_same (W3 p) prev q r e m = m ∙ ap Some (e refl)
 looks_same Inside prev q r e m = m ∙ ap Some (e refl)
 looks_same (X0 p) prev q r e m = m ∙ ap Some (e refl)
-looks_same (X1 p) prev q r e m = tt
+looks_same _ prev q r e m = m
 
 -- ## One worker, while others move
 
@@ -165,15 +144,15 @@ module _ {tail : ℕ} {node : ℕ → Node} {own : ℕ → ℕ} {label : ℕ →
       marked = t.marked;
     })
 
-    pub keep_unlock : (p : ℕ) → label w ≡ Inside → (node (own w)).prev ≡ Some p → Chained tail node own (upd label w (X0 p)) c
-    keep_unlock p e m = let t = standing Inside e in moved node own (X0 p) (λ n ne. refl) (λ v ne. refl) (ap queued (sym e)) (record {
+    pub keep_unlock : label w ≡ Inside → Chained tail node own (upd label w (X0 (unwrap_or (node (own w)).prev 0))) c
+    keep_unlock e = let t = standing Inside e in moved node own _ (λ n ne. refl) (λ v ne. refl) (ap queued (sym e)) (record {
       own_in = t.own_in;
       kept_in = t.kept_in;
       keeps = t.keeps;
       flag = t.flag;
       owns = t.owns;
       front = t.front;
-      before = λ q k. let z = t.marked in cc;
+      before = λ q k. cc (ap (λ o. unwrap_or o 0) t.marked);
       marked = t.marked;
     })
 
@@ -225,7 +204,7 @@ module _ {tail : ℕ} {node : ℕ → Node} {own : ℕ → ℕ} {label : ℕ →
       flag = t.flag;
       owns = t.owns;
       front = λ k. opened p (ap link e) f;
-      before = λ q k. grind (arith, k);
+      before = λ q k. never k;
       marked = t.marked;
     })
 
@@ -308,7 +287,7 @@ module _ {tail : ℕ} {node : ℕ → Node} {own : ℕ → ℕ} {label : ℕ →
                   flag = ap (λ y. y.wait) (upd_other node (own w) p x not_p) ∙ (ap (λ n. (node n).wait) is_p ∙ h.spare_open);
                   owns = λ k. absurd (false≢true k);
                   front = λ k. absurd (false≢true k);
-                  before = λ q k. grind (arith, k);
+                  before = λ q k. never k;
                   marked = tt;
                 })
                 (λ v ne a. let k = h.stands v a in

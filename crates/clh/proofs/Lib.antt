@@ -1,4 +1,3 @@
-pub mod Nodes
 pub mod Keeps
 pub mod Nearing
 pub mod Rules

@@ -6,6 +6,7 @@ use Rattle.lock.specs.declared.place.Place.TheVariants as place
 use Rattle.lock.specs.Calls.{upd}
 use Rattle.lock.proofs.Pair.{Below, SomeDistance, Fitting, Onward}
 use Rattle.lock.proofs.Labelled.{Free, Waits, upd_same, upd_other}
+use Rattle.queue.proofs.Written.{each}
 use Rattle.queue.proofs.Ordering.{same_rank}
 use Rattle.clh.specs.declared.words.Label.{Label}
 use Rattle.clh.specs.declared.words.Label.TheVariants.{Out, W0, W1, W2, W3, Inside, X0, X1}
@@ -23,36 +24,29 @@ open_at : (b : Bool) (n : ℕ) → b ≡ false → unless b n ≡ Some n
 open_at b n e = ap (λ x. unless x n) e
 
 pub fitting : (tail : ℕ) (node : ℕ → Node) (l : Label) (d : ℕ) → distance_at tail node l ≡ Some d → Fitting 5 (place_of l) d
-fitting tail node Out d e = never e
 fitting tail node W0 d e = let z = (unless_is _ 4 d e).1 in (inl refl, omega (arith, z), omega (arith, z))
 fitting tail node W1 d e = let z = (unless_is _ 3 d e).1 in (inl refl, omega (arith, z), omega (arith, z))
 fitting tail node (W2 p) d e = let z = (unless_is _ 2 d e).1 in (inl refl, omega (arith, z), omega (arith, z))
 fitting tail node (W3 p) d e = let z = (unless_is _ 1 d e).1 in (inl refl, omega (arith, z), omega (arith, z))
-fitting tail node Inside d e = never e
 fitting tail node (X0 p) d e = let z : 5 ≡ d = cc in (inr refl, omega arith, omega arith)
-fitting tail node (X1 p) d e = never e
+fitting tail node _ d e = never e
 
 -- only a worker that is to hand on is as far off as 5
 short : (tail : ℕ) (node : ℕ → Node) (l : Label) (d : ℕ) → distance_at tail node l ≡ Some d → (d < 5) ⊎ (ahead l ≡ true)
-short tail node Out d e = never e
 short tail node W0 d e = inl (omega (arith, (unless_is _ 4 d e).1))
 short tail node W1 d e = inl (omega (arith, (unless_is _ 3 d e).1))
 short tail node (W2 p) d e = inl (omega (arith, (unless_is _ 2 d e).1))
 short tail node (W3 p) d e = inl (omega (arith, (unless_is _ 1 d e).1))
-short tail node Inside d e = never e
 short tail node (X0 p) d e = inr refl
-short tail node (X1 p) d e = never e
+short tail node _ d e = never e
 
 -- distances go by the flags of the tail and of the nodes that are looked at
 distance_same : (tail next : ℕ) (node after : ℕ → Node) (l : Label) → (after next).wait ≡ (node tail).wait → ((p : ℕ) → link l ≡ Some p → (after p).wait ≡ (node p).wait) → distance_at next after l ≡ distance_at tail node l
-distance_same tail next node after Out e f = refl
 distance_same tail next node after W0 e f = ap (λ b. unless b 4) e
 distance_same tail next node after W1 e f = ap (λ b. unless b 3) e
 distance_same tail next node after (W2 p) e f = ap (λ b. unless b 2) (f p refl)
 distance_same tail next node after (W3 p) e f = ap (λ b. unless b 1) (f p refl)
-distance_same tail next node after Inside e f = refl
-distance_same tail next node after (X0 p) e f = refl
-distance_same tail next node after (X1 p) e f = refl
+distance_same tail next node after _ e f = refl
 
 abbrev pub distances : ℕ → (ℕ → Node) → (ℕ → Label) → ℕ → Option ℕ
 distances tail node label v = distance_at tail node (label v)
@@ -71,25 +65,19 @@ module _ {tail : ℕ} {node : ℕ → Node} {own : ℕ → ℕ} {label : ℕ →
 
   -- the first in the line
   first_at : (v : ℕ) (l : Label) (n : ℕ) → Stands node c v l n → queued l ≡ true → c.line.rank v ≡ c.line.first → (place_of l ≡ place.Inside → ⊥) → (d : ℕ) × (distance_at tail node l ≡ Some d)
-  first_at v Out n t q r i = absurd (false≢true q)
-  first_at v W0 n t q r i = absurd (false≢true q)
-  first_at v W1 n t q r i = absurd (false≢true q)
   first_at v (W2 p) n t q r i = (2, open_at _ 2 (ap (λ m. (node m).wait) (t.before p refl ∙ ap c.at r) ∙ h.spare_open))
   first_at v (W3 p) n t q r i = (1, open_at _ 1 (ap (λ m. (node m).wait) (t.before p refl ∙ ap c.at r) ∙ h.spare_open))
   first_at v Inside n t q r i = absurd (i refl)
   first_at v (X0 p) n t q r i = (5, refl)
-  first_at v (X1 p) n t q r i = absurd (false≢true q)
+  first_at v _ n t q r i = absurd (false≢true q)
 
   -- one that comes to an empty line
   comer_at : (l : Label) → place_of l ≡ place.Waiting → (queued l ≡ true → ⊥) → c.line.first ≡ c.line.end → (d : ℕ) × (distance_at tail node l ≡ Some d)
   comer_at Out e n z = grind (arith, e)
   comer_at W0 e n z = (4, open_at _ 4 (vacant_open z))
   comer_at W1 e n z = (3, open_at _ 3 (vacant_open z))
-  comer_at (W2 p) e n z = absurd (n refl)
-  comer_at (W3 p) e n z = absurd (n refl)
-  comer_at Inside e n z = absurd (n refl)
-  comer_at (X0 p) e n z = absurd (n refl)
   comer_at (X1 p) e n z = grind (arith, e)
+  comer_at _ e n z = absurd (n refl)
 
   pub some : Free place_of label → Waits place_of label → SomeDistance far
   some free (w, lt, e) = ⊎_elim
@@ -100,14 +88,12 @@ module _ {tail : ℕ} {node : ℕ → Node} {own : ℕ → ℕ} {label : ℕ →
 
   -- while somebody is in the line, only the first has a distance
   only_first : c.line.first < c.line.end → (v d : ℕ) → v < 16 → (l : Label) → label v ≡ l → distance_at tail node l ≡ Some d → (queued (label v) ≡ true) × (c.line.rank v ≡ c.line.first)
-  only_first f v d a Out e k = never k
   only_first f v d a W0 e k = absurd (false≢true (sym (unless_is _ 4 d k).0 ∙ lined_shut f))
   only_first f v d a W1 e k = absurd (false≢true (sym (unless_is _ 3 d k).0 ∙ lined_shut f))
   only_first f v d a (W2 p) e k = (ap queued e, opened h v a p (ap link e) (unless_is _ 2 d k).0)
   only_first f v d a (W3 p) e k = (ap queued e, opened h v a p (ap link e) (unless_is _ 1 d k).0)
-  only_first f v d a Inside e k = never k
   only_first f v d a (X0 p) e k = (ap queued e, (h.stands v a).front (ap ahead e))
-  only_first f v d a (X1 p) e k = never k
+  only_first f v d a _ e k = never k
 
   -- ## One access
 
@@ -150,12 +136,7 @@ module _ {tail : ℕ} {node : ℕ → Node} {own : ℕ → ℕ} {label : ℕ →
 
     -- a node of which only `prev` is written
     flags : (n : ℕ) (p : Option ℕ) (k : ℕ) → (with_prev node n p k).wait ≡ (node k).wait
-    flags n p k = ⊎_elim
-        (λ e. ap (λ j. (upd node n x j).wait) e ∙ (ap (λ y. y.wait) (upd_same node n x) ∙ ap (λ j. (node j).wait) (sym e)))
-        (λ ne. ap (λ y. y.wait) (upd_other node n k x ne)) (cases_eq k n)
-      where
-        x : Node
-        x = record { wait = (node n).wait; prev = p }
+    flags n p = each (λ j y. y.wait ≡ (node j).wait) node n _ refl (λ j ne. refl)
 
     pub on_W2 : (p : ℕ) → label w ≡ W2 p → Onward w far (distances tail (with_prev node (own w) (Some p)) (upd label w (W3 p)))
     on_W2 p e = on_same (with_prev node (own w) (Some p)) (W3 p) (flags (own w) (Some p) tail) (λ v q a ne k. flags (own w) (Some p) q)
@@ -178,14 +159,9 @@ module _ {tail : ℕ} {node : ℕ → Node} {own : ℕ → ℕ} {label : ℕ →
         still v ne l k = ap (distance_at (own w) node) (upd_other label w v (W2 tail) ne ∙ k)
 
         by_label : (v d : ℕ) → v < 16 → (v ≡ w → ⊥) → (l : Label) → label v ≡ l → distance_at tail node l ≡ Some d → Below (distances (own w) node (upd label w (W2 tail))) (d + 1)
-        by_label v d a ne Out k f = never f
         by_label v d a ne W0 k f = let z = unless_is _ 4 d f in (w, 2, lt, mine z.0, omega (arith, z.1))
         by_label v d a ne W1 k f = let z = unless_is _ 3 d f in (w, 2, lt, mine z.0, omega (arith, z.1))
-        by_label v d a ne (W2 p) k f = (v, d, a, still v ne (W2 p) k ∙ f, omega arith)
-        by_label v d a ne (W3 p) k f = (v, d, a, still v ne (W3 p) k ∙ f, omega arith)
-        by_label v d a ne Inside k f = never f
-        by_label v d a ne (X0 p) k f = (v, d, a, still v ne (X0 p) k ∙ f, omega arith)
-        by_label v d a ne (X1 p) k f = never f
+        by_label v d a ne l k f = (v, d, a, still v ne l k ∙ f, omega arith)
 
 -- handing on: whoever is then at a distance is nearer than the one that handed on
 pub on_X0 : {tail : ℕ} {node : ℕ → Node} {own : ℕ → ℕ} {label : ℕ → Label} {c : Chain} (h : Chained tail node own label c) (w : ℕ) (lt : w < 16) (p : ℕ) → label w ≡ X0 p

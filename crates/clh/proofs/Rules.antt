@@ -1,77 +1,53 @@
 -- Each call of the clh lock keeps the facts of its words and the rules of a lock.
-use Rattle.std.proofs.Common.{◌≡◌, ℕ, ◌+◌, ◌<◌, Bool, true, false, cond, length, get_or, set, replicate, is_some as option_is_some, Some, None, Ok, Option, Result, unwrap_or, sym, refl, ap, ◌∙◌, subst, arith, length-set}
-use mathlib.Core.Logic.{∥∥₁_map, ∥∥₁_prop}
-use mathlib.Core.HLevel.{is_prop→PathP}
+use Rattle.std.proofs.Common.{◌≡◌, ℕ, zero, suc, ◌+◌, ◌<◌, Bool, true, false, cond, length, get_or, set, map, is_some as option_is_some, Some, None, Ok, Option, unwrap_or, sym, refl, ap, ◌∙◌, subst, arith, length-set}
+use mathlib.Core.Logic.{∥∥₁_elim}
 use native.Mathlib.Nat.{ℕ_set}
-use Rattle.std.proofs.lemmas.List.FromFn.{get_or-range_with_len}
+use Rattle.std.specs.List.{range_with_len}
+use Rattle.std.proofs.lemmas.List.FromFn.{get_or-map-range_with_len}
 use Rattle.std.proofs.lemmas.List.{get_or-replicate}
 use Rattle.std.proofs.lemmas.Bool.{false≢true}
 use Rattle.lock.specs.declared.place.Place.TheVariants as places
 use Rattle.lock.specs.declared.answer.Answer.{Answer}
 use Rattle.lock.specs.declared.answer.Answer.TheVariants.{Done, Entered, Left}
-use Rattle.lock.specs.declared.refusal.Refusal.{Refusal}
 use Rattle.lock.specs.declared.refusal.Refusal.TheVariants.{Idle}
-use Rattle.lock.specs.Rules.{Request, locking, unlocking, stepping, Leads, Obeys, Sound}
+use Rattle.lock.specs.Rules.{Request, locking, unlocking, stepping, Leads}
 use Rattle.lock.specs.Calls.{Outcome, upd}
-use Rattle.lock.specs.Distance.{listed}
 use Rattle.lock.proofs.Pair.{Onward}
-use Rattle.lock.proofs.Small.{all_same}
-use Rattle.lock.proofs.Single.{sound_prop}
+use Rattle.lock.proofs.Small.{never}
 use Rattle.lock.proofs.Labelled as labelled
-use Rattle.lock.proofs.Labelled.{Kind, Free, Waits, read_set, upd_same, upd_other}
+use Rattle.lock.proofs.Labelled.{Kind, Free, Waits, upd_same, upd_other}
 use Rattle.queue.specs.Line.{empty}
+use Rattle.queue.proofs.Written.{each, mapped_set}
 use Rattle.queue.proofs.Ordering.{same_rank, nobody}
-use Rattle.queue.proofs.Turnwise as turnwise
 use Rattle.rows.proofs.Lending.{read_with}
 use Rattle.clh.specs.declared.words.Label.{Label}
 use Rattle.clh.specs.declared.words.Label.TheVariants.{Out, W0, W1, W2, W3, Inside, X0, X1}
 use Rattle.clh.specs.declared.words.Node.{Node}
+use Rattle.clh.specs.declared.words.Worker.{Worker}
 use Rattle.clh.specs.declared.words.Words.{Words}
-use Rattle.clh.specs.declared.Clh.{Clh}
-use Rattle.clh.specs.Accesses.{new_words, blank, label, place_of, place, own, node, set_node, put, before, mark, access, locked, unlocked, stepped}
-use Rattle.clh.specs.Distance.{distance_at, due_pair}
-use Rattle.clh.specs.Facts.{Sixteen, queued, ahead, Marked, Chain, Stands, Chained, Ordered, Lined}
+use Rattle.clh.specs.Accesses.{new_words, outside, worker, blank, label, place_of, own, node, put, before, mark, access, locked, unlocked, stepped}
+use Rattle.clh.specs.Distance.{distance_at}
+use Rattle.clh.specs.Facts.{Sixteen, queued, ahead, Chain, Stands, Chained, Holds}
 use Rattle.clh.proofs.Keeps.{with_wait, with_prev, standing, longer, shorter, keep_lock, keep_unlock, keep_W0, keep_W1, keep_W2, keep_W3, keep_X0, keep_X1}
 use Rattle.clh.proofs.Nearing.{distances, fitting, some, on_wait, on_W0, on_W1, on_W2, on_X0, on_X1}
-
-abbrev pub Facts : Words → Type 0
-Facts s = Sixteen s × Ordered s
 
 -- the distances, where L are the labels
 abbrev pub distance_by : Words → (ℕ → Label) → ℕ → Option ℕ
 distance_by s L = distances s.tail (node s) L
 
 inside_is : (l : Label) → place_of l ≡ places.Inside → l ≡ Inside
-inside_is Out e = grind (arith, e)
-inside_is W0 e = grind (arith, e)
-inside_is W1 e = grind (arith, e)
-inside_is (W2 p) e = grind (arith, e)
-inside_is (W3 p) e = grind (arith, e)
 inside_is Inside e = refl
-inside_is (X0 p) e = grind (arith, e)
-inside_is (X1 p) e = grind (arith, e)
+inside_is _ e = grind (arith, e)
 
 out_is : (l : Label) → place_of l ≡ places.Out → l ≡ Out
 out_is Out e = refl
-out_is W0 e = grind (arith, e)
-out_is W1 e = grind (arith, e)
-out_is (W2 p) e = grind (arith, e)
-out_is (W3 p) e = grind (arith, e)
-out_is Inside e = grind (arith, e)
-out_is (X0 p) e = grind (arith, e)
-out_is (X1 p) e = grind (arith, e)
+out_is _ e = grind (arith, e)
 
 -- a worker in the line, and what the facts say of it
-in_line : (s : Words) (f : Facts s) (w : ℕ) → queued (label s w) ≡ true → w < 16
+in_line : (s : Words) (f : Holds s) (w : ℕ) → queued (label s w) ≡ true → w < 16
 in_line s f w q = (f.1.1.order.within w q).0
 
-shown : (l : Label) (prev : Option ℕ) (q : ℕ) → l ≡ Inside → Marked l prev q → option_is_some prev ≡ true
-shown l prev q e m = let M : Label → Type 0 = λ x. Marked x prev q in ap option_is_some (subst M e m)
-
-unshown : (l : Label) (prev : Option ℕ) (q : ℕ) → l ≡ Out → Marked l prev q → option_is_some prev ≡ false
-unshown l prev q e m = let M : Label → Type 0 = λ x. Marked x prev q in ap option_is_some (subst M e m)
-
-pub kind : Kind label place_of distance_by mark 5 Facts
+pub kind : Kind label place_of distance_by mark 5 Holds
 kind = record {
   some = λ s f. some f.1.1;
   fitting = λ s v. fitting s.tail (node s) (label s v);
@@ -80,148 +56,119 @@ kind = record {
       let i = inside_is (label s v) a in
       let j = inside_is (label s w) b in
       same_rank h.order v w (ap queued i) (ap queued j) ((h.stands v (in_line s f v (ap queued i))).front (ap ahead i) ∙ sym ((h.stands w (in_line s f w (ap queued j))).front (ap ahead j)));
-  held = λ s f w lt at. shown (label s w) (before s w) _ (inside_is (label s w) at) (f.1.1.stands w lt).marked;
-  free = λ s f w lt at. unshown (label s w) (before s w) _ (out_is (label s w) at) (f.1.1.stands w lt).marked;
+  held = λ s f w lt at. ap option_is_some (standing f.1.1 w lt Inside (inside_is (label s w) at)).marked;
+  free = λ s f w lt at. ap option_is_some (standing f.1.1 w lt Out (out_is (label s w) at)).marked;
 }
 
 -- ## The calls
 
-module _ (t : Clh) (w : ℕ) where
-  abbrev pub words : Words
-  words = t.words
-
-  abbrev pub facts : ∥ Facts words ∥₁
-  facts = ∥∥₁_map t.lined (λ f. (t.sixteen, f))
-
+module _ (s : Words) (w : ℕ) (ok : ∥ Holds s ∥₁) where
   abbrev pub Good : Request → Outcome Words → Type 0
-  Good q o = labelled.Good kind words facts q w o
+  Good q o = labelled.Good kind s ok q w o
 
-  module _ (x : Words) (l : Label) (to : x.at ≡ set words.at w l) (lt : w < 16) where
-    labels : label x ≡ upd (label words) w l
-    labels = ap (λ a v. get_or a v Out) to ∙ read_set words.at w l Out (omega (arith, t.sixteen.0))
+  sixteen : Sixteen s
+  sixteen = ∥∥₁_elim ok (ℕ_set _ _) (λ f. f.0)
 
-    -- an access that leaves x, with its nodes and own nodes as seen
-    goes : (q : Request) (a : Answer) (k : Label) (nodes : ℕ → Node) (owned : ℕ → ℕ) → label words w ≡ k → Leads q (place_of k) (Ok a) (place_of l)
-        → length x.own ≡ 16 → own x ≡ owned → (Facts words → node x ≡ nodes)
-        → ((f : Facts words) → (c : Chain) × Chained x.tail nodes owned (upd (label words) w l) c)
-        → ((f : Facts words) → Free place_of (label words) → Free place_of (upd (label words) w l) → Waits place_of (upd (label words) w l) → Onward w (distance_by words (label words)) (distances x.tail nodes (upd (label words) w l)))
+  -- where the own node stays
+  own_stays : upd (own s) w (own s w) ≡ own s
+  own_stays = λ i v. each (λ u n. n ≡ own s u) (own s) w (own s w) refl (λ u ne. refl) v i
+
+  module _ (x : Words) (n : ℕ) (l : Label) (to : x.workers ≡ set s.workers w (record { own = n; label = l })) (lt : w < 16) where
+    read : {A : Type 0} (g : Worker → A) → (λ v. g (worker x v)) ≡ upd (λ v. g (worker s v)) w (g (record { own = n; label = l }))
+    read g = ap (λ a v. g (get_or a v (outside 0))) to ∙ mapped_set g s.workers w _ (outside 0) (omega (arith, sixteen))
+
+    labels : label x ≡ upd (label s) w l
+    labels = read (λ y. y.label)
+
+    -- what holds of x, with its nodes and own nodes as seen
+    holding : (nodes : ℕ → Node) (owned : ℕ → ℕ) → node x ≡ nodes → upd (own s) w n ≡ owned → (c : Chain) × Chained x.tail nodes owned (upd (label s) w l) c → Holds x
+    holding nodes owned ns os (c, h) = (
+      ap length to ∙ (length-set s.workers w _ ∙ sixteen),
+      (c, subst (λ L. Chained x.tail (node x) (own x) L c) (sym (read (λ y. y.label))) (subst (λ m. Chained x.tail m (own x) (upd (label s) w l) c) (sym ns) (subst (λ m. Chained x.tail nodes m (upd (label s) w l) c) (sym (read (λ y. y.own) ∙ os)) h))),
+    )
+
+    -- an access that leaves x
+    goes : (q : Request) (a : Answer) (k : Label) (nodes : ℕ → Node) (owned : ℕ → ℕ) → label s w ≡ k → Leads q (place_of k) (Ok a) (place_of l)
+        → upd (own s) w n ≡ owned → (Holds s → node x ≡ nodes)
+        → ((f : Holds s) → (c : Chain) × Chained x.tail nodes owned (upd (label s) w l) c)
+        → ((f : Holds s) → Free place_of (label s) → Free place_of (upd (label s) w l) → Waits place_of (upd (label s) w l) → Onward w (distance_by s (label s)) (distances x.tail nodes (upd (label s) w l)))
         → Good q (x, Ok a)
-    goes q a k nodes owned at leads len os ns keep on = labelled.goes kind words facts q w lt (place_of k) (ap place_of at) x a l labels leads
-        (λ f. let r = keep f in let n = ns f in (
-          (ap length to ∙ (length-set words.at w l ∙ t.sixteen.0), len),
-          (r.0, subst (λ L. Chained x.tail (node x) (own x) L r.0) (sym labels) (subst (λ m. Chained x.tail m (own x) (upd (label words) w l) r.0) (sym n) (subst (λ m. Chained x.tail nodes m (upd (label words) w l) r.0) (sym os) r.1))),
-        ))
-        (λ f free free' waits. subst (λ m. Onward w (distance_by words (label words)) (distances x.tail m (upd (label words) w l))) (sym (ns f)) (on f free free' waits))
+    goes q a k nodes owned at leads os ns keep on = labelled.goes kind s ok q w lt (place_of k) (ap place_of at) x a l labels leads
+        (λ f. holding nodes owned (ns f) os (keep f))
+        (λ f free free' waits. subst (λ m. Onward w (distance_by s (label s)) (distances x.tail m (upd (label s) w l))) (sym (ns f)) (on f free free' waits))
 
   module _ (lt : w < 16) where
-    -- a node is written
-    node_set : (n : ℕ) (x : Node) → n < 17 → node (set_node words n x) ≡ upd (node words) n x
-    node_set n x l = read_with words.nodes n x blank l
-
-    own_in : Facts words → own words w < 17
+    own_in : Holds s → own s w < 17
     own_in f = (f.1.1.stands w lt).own_in
 
-    step_at : (l : Label) → label words w ≡ l → Good stepping (access l words w)
-    step_at Out at = labelled.refused kind words facts stepping w lt places.Out (ap place_of at) Idle (refl, refl)
-    step_at W0 at = goes (access W0 words w).0 W1 refl lt stepping Done W0 (with_wait (node words) (own words w) true) (own words) at refl t.sixteen.1 refl
-        (λ f. node_set (own words w) _ (own_in f)) (λ f. (f.1.0, keep_W0 f.1.1 w lt at)) (λ f n m z. on_W0 f.1.1 w lt at)
-    step_at W1 at = goes (access W1 words w).0 (W2 words.tail) refl lt stepping Done W1 (node words) (own words) at refl t.sixteen.1 refl
+    step_at : (l : Label) → label s w ≡ l → Good stepping (access l s w)
+    step_at Out at = labelled.refused kind s ok stepping w lt places.Out (ap place_of at) Idle (refl, refl)
+    step_at W0 at = goes (access W0 s w).0 (own s w) W1 refl lt stepping Done W0 (with_wait (node s) (own s w) true) (own s) at refl own_stays
+        (λ f. read_with s.nodes (own s w) _ blank (own_in f)) (λ f. (f.1.0, keep_W0 f.1.1 w lt at)) (λ f n m z. on_W0 f.1.1 w lt at)
+    step_at W1 at = goes (access W1 s w).0 (own s w) (W2 s.tail) refl lt stepping Done W1 (node s) (own s) at refl own_stays
         (λ f. refl) (λ f. (longer f.1.1 w lt, keep_W1 f.1.1 w lt at)) (λ f n m z. on_W1 f.1.1 w lt at)
-    step_at (W2 p) at = goes (access (W2 p) words w).0 (W3 p) refl lt stepping Done (W2 p) (with_prev (node words) (own words w) (Some p)) (own words) at refl t.sixteen.1 refl
-        (λ f. node_set (own words w) _ (own_in f)) (λ f. (f.1.0, keep_W2 f.1.1 w lt p at)) (λ f n m z. on_W2 f.1.1 w lt p at)
-    step_at (W3 p) at = by_flag (node words p).wait refl
+    step_at (W2 p) at = goes (access (W2 p) s w).0 (own s w) (W3 p) refl lt stepping Done (W2 p) (with_prev (node s) (own s w) (Some p)) (own s) at refl own_stays
+        (λ f. read_with s.nodes (own s w) _ blank (own_in f)) (λ f. (f.1.0, keep_W2 f.1.1 w lt p at)) (λ f n m z. on_W2 f.1.1 w lt p at)
+    step_at (W3 p) at = by_flag (node s p).wait refl
       where
-        by_flag : (b : Bool) → (node words p).wait ≡ b → Good stepping (cond {A = Outcome Words} b (words, Ok Done) (put words w Inside, Ok Entered))
-        by_flag true e = labelled.spins kind words facts stepping w lt places.Waiting (ap place_of at) Done refl (λ f. on_wait f.1.1 w lt p at e)
-        by_flag false e = goes (put words w Inside) Inside refl lt stepping Entered (W3 p) (node words) (own words) at refl t.sixteen.1 refl
-            (λ f. refl) (λ f. (f.1.0, keep_W3 f.1.1 w lt p at e)) (λ f n m z. absurd (m w lt (ap place_of (upd_same (label words) w Inside))))
-    step_at Inside at = labelled.refused kind words facts stepping w lt places.Inside (ap place_of at) Idle (refl, refl)
-    step_at (X0 p) at = goes (access (X0 p) words w).0 (X1 p) refl lt stepping Done (X0 p) (with_wait (node words) (own words w) false) (own words) at refl t.sixteen.1 refl
-        (λ f. node_set (own words w) _ (own_in f)) (λ f. (shorter f.1.1 w lt p, keep_X0 f.1.1 w lt p at)) (λ f n m z. on_X0 f.1.1 w lt p at m z)
-    step_at (X1 p) at = goes (access (X1 p) words w).0 Out refl lt stepping Left (X1 p) (with_prev (node words) p None) (upd (own words) w p) at refl (length-set words.own w p ∙ t.sixteen.1)
-        (read_set words.own w p 0 (omega (arith, t.sixteen.1)))
-        (λ f. node_set p _ (standing f.1.1 w lt (X1 p) at).kept_in) (λ f. (f.1.0, keep_X1 f.1.1 w lt p at)) (λ f n m z. on_X1 f.1.1 w lt p at)
+        by_flag : (b : Bool) → (node s p).wait ≡ b → Good stepping (cond {A = Outcome Words} b (s, Ok Done) (put s w Inside, Ok Entered))
+        by_flag true e = labelled.spins kind s ok stepping w lt places.Waiting (ap place_of at) Done refl (λ f. on_wait f.1.1 w lt p at e)
+        by_flag false e = goes (put s w Inside) (own s w) Inside refl lt stepping Entered (W3 p) (node s) (own s) at refl own_stays
+            (λ f. refl) (λ f. (f.1.0, keep_W3 f.1.1 w lt p at e)) (λ f n m z. absurd (m w lt (ap place_of (upd_same (label s) w Inside))))
+    step_at Inside at = labelled.refused kind s ok stepping w lt places.Inside (ap place_of at) Idle (refl, refl)
+    step_at (X0 p) at = goes (access (X0 p) s w).0 (own s w) (X1 p) refl lt stepping Done (X0 p) (with_wait (node s) (own s w) false) (own s) at refl own_stays
+        (λ f. read_with s.nodes (own s w) _ blank (own_in f)) (λ f. (shorter f.1.1 w lt p, keep_X0 f.1.1 w lt p at)) (λ f n m z. on_X0 f.1.1 w lt p at m z)
+    step_at (X1 p) at = goes (access (X1 p) s w).0 p Out refl lt stepping Left (X1 p) (with_prev (node s) p None) (upd (own s) w p) at refl refl
+        (λ f. read_with s.nodes p _ blank (standing f.1.1 w lt (X1 p) at).kept_in) (λ f. (f.1.0, keep_X1 f.1.1 w lt p at)) (λ f n m z. on_X1 f.1.1 w lt p at)
 
-  seen : (l : Label) → (w < 16 → Facts words → (c : Chain) × Chained words.tail (node words) (own words) (upd (label words) w l) c) → w < 16 → Facts words → Facts (put words w l)
-  seen l keep lt f = let r = keep lt f in
-      ((length-set words.at w l ∙ t.sixteen.0, t.sixteen.1), (r.0, subst (λ L. Chained words.tail (node words) (own words) L r.0) (sym (labels (put words w l) l refl lt)) r.1))
+  pub lock_good : Good locking (locked s w)
+  lock_good = labelled.locked kind s ok w (put s w W0) W0 (labels (put s w W0) (own s w) W0 refl) refl
+      (λ lt at f. holding (put s w W0) (own s w) W0 refl lt (node s) (own s) refl own_stays (f.1.0, keep_lock f.1.1 w lt (out_is (label s w) at)))
+      (λ v ne. ap (distance_at s.tail (node s)) (upd_other (label s) w v W0 ne))
 
-  pub lock_good : Good locking (locked words w)
-  lock_good = labelled.locked kind words facts w (put words w W0) W0 (labels (put words w W0) W0 refl) refl
-      (λ lt at. seen W0 (λ l f. (f.1.0, keep_lock f.1.1 w l (out_is (label words w) at))) lt)
-      (λ v ne. ap (distance_at words.tail (node words)) (upd_other (label words) w v W0 ne))
+  pub unlock_good : Good unlocking (unlocked s w)
+  unlock_good = let l : Label = X0 (unwrap_or (before s w) 0) in labelled.unlocked kind s ok w (put s w l) l (labels (put s w l) (own s w) l refl) refl
+      (λ lt at f. holding (put s w l) (own s w) l refl lt (node s) (own s) refl own_stays (f.1.0, keep_unlock f.1.1 w lt (inside_is (label s w) at)))
 
-  pub unlock_good : Good unlocking (unlocked words w)
-  unlock_good = labelled.unlocked kind words facts w (put words w (X0 p)) (X0 p) (labels (put words w (X0 p)) (X0 p) refl) refl
-      (λ lt at. seen (X0 p) (λ l f. (f.1.0, keep_unlock f.1.1 w l p (inside_is (label words w) at) (is_some (before words w) (kind.held words f w l at)))) lt)
-    where
-      p : ℕ
-      p = unwrap_or (before words w) 0
-
-      is_some : (o : Option ℕ) → option_is_some o ≡ true → o ≡ Some (unwrap_or o 0)
-      is_some None e = absurd (false≢true e)
-      is_some (Some n) e = refl
-
-  pub step_good : Good stepping (stepped words w)
-  step_good = labelled.looked kind words facts stepping w _ (λ lt. step_at lt (label words w) refl)
-
--- ## The lock
-
-sixteen_prop : (s : Words) (p q : Sixteen s) → p ≡ q
-sixteen_prop s p q = λ i. (ℕ_set _ _ p.0 q.0 i, ℕ_set _ _ p.1 q.1 i)
-
--- what a lock of such words owes
-owed : (x : Words) → Sixteen x → Lined x → record { sixteen : Sixteen x; lined : Lined x; sound : Sound 5 (listed (place x)) (due_pair x) }
-owed x n l = record { sixteen = n; lined = l; sound = labelled.sound kind x (∥∥₁_map l (λ f. (n, f))) }
-
-pub kept : (s : Clh) (w : ℕ) (q : Request) (x : Words) (r : Result Answer Refusal) (o : Outcome Words) → (x, r) ≡ o → Good s w q o → record { sixteen : Sixteen x; lined : Lined x; sound : Sound 5 (listed (place x)) (due_pair x) }
-kept s w q x r o e g = let k = turnwise.kept Sixteen Ordered sixteen_prop s.words x r o (facts s w) e g.0 in owed x k.0 k.1
-
--- a lock is its words
-same_lock : (s t : Clh) → s.words ≡ t.words → s ≡ t
-same_lock s t e = λ i. record {
-  words = e i;
-  sixteen = is_prop→PathP (λ j. Sixteen (e j)) (λ j. sixteen_prop (e j)) s.sixteen t.sixteen i;
-  lined = is_prop→PathP (λ j. Lined (e j)) (λ j. ∥∥₁_prop) s.lined t.lined i;
-  sound = is_prop→PathP (λ j. Sound 5 (listed (place (e j))) (due_pair (e j))) (λ j. sound_prop _ _ _) s.sound t.sound i;
-}
-
-pub told : (s t : Clh) (w : ℕ) (q : Request) (r : Result Answer Refusal) (o : Outcome Words) → (t.words, r) ≡ o → Good s w q o → Obeys (λ z. listed (place z.words)) (λ z. due_pair z.words) q w r s t
-told s t w q r o e g = labelled.lifted kind (λ (z : Clh). z.words) same_lock q w s t r o e g.1
-
-pub new_out : (s : Clh) → s.words ≡ new_words → listed (place s.words) ≡ replicate 16 places.Out
-unfolding listed
-new_out s e = ap (λ x. listed (place x)) e
+  pub step_good : Good stepping (stepped s w)
+  step_good = labelled.looked kind s ok stepping w _ (λ lt. step_at lt (label s w) refl)
 
 -- nobody has come: the line is empty, and node 16 is spare
 abbrev new_chain : Chain
 new_chain = record { line = empty; at = λ r. 16; keeper = λ n. n }
 
-new_lined : Lined new_words
-new_lined = ∣ (
-  new_chain,
-  record {
-    order = nobody _ (λ v. ap queued (all_same 16 Out v));
-    spare_in = omega arith;
-    spare_free = refl;
-    spare_open = refl;
-    last = refl;
-    stands = λ w lt.
-        let owns : own new_words w ≡ w = get_or-range_with_len 0 16 w 0 lt ∙ (let z : 0 + w ≡ w = omega arith in z) in
-        let clean : node new_words w ≡ blank = get_or-replicate 17 w blank blank (omega arith) in
-        subst (λ l. Stands (node new_words) new_chain w l (own new_words w)) (sym (all_same 16 Out w))
-        (subst (Stands (node new_words) new_chain w Out) (sym owns) (record {
-          own_in = omega arith;
-          kept_in = omega arith;
-          keeps = refl;
-          flag = ap (λ n. n.wait) clean;
-          owns = λ k. absurd (false≢true k);
-          front = λ k. absurd (false≢true k);
-          before = λ p k. grind (arith, k);
-          marked = ap (λ n. n.prev) clean;
-        }));
-  },
-) ∣₁
+outside_at : (a n v : ℕ) → (get_or (map outside (range_with_len a n)) v (outside 0)).label ≡ Out
+outside_at a zero v = refl
+outside_at a (suc n) zero = refl
+outside_at a (suc n) (suc v) = outside_at (a + 1) n v
 
-pub new_kept : (x : Words) → x ≡ new_words → record { sixteen : Sixteen x; lined : Lined x; sound : Sound 5 (listed (place x)) (due_pair x) }
-new_kept x e = owed x (subst Sixteen (sym e) (refl, refl)) (subst Lined (sym e) new_lined)
+pub new_label : (v : ℕ) → label new_words v ≡ Out
+new_label v = outside_at 0 16 v
+
+pub new_holds : Holds new_words
+new_holds = (
+  refl,
+  (
+    new_chain,
+    record {
+      order = nobody _ (λ v. ap queued (new_label v));
+      spare_in = omega arith;
+      spare_free = refl;
+      spare_open = refl;
+      last = refl;
+      stands = λ w lt.
+          let new : worker new_words w ≡ outside w = get_or-map-range_with_len outside 0 16 w w (outside 0) lt (omega arith) in
+          let clean : node new_words w ≡ blank = get_or-replicate 17 w blank blank (omega arith) in
+          subst (λ y. Stands (node new_words) new_chain w y.label y.own) (sym new) (record {
+            own_in = omega arith;
+            kept_in = omega arith;
+            keeps = refl;
+            flag = ap (λ n. n.wait) clean;
+            owns = λ k. absurd (false≢true k);
+            front = λ k. absurd (false≢true k);
+            before = λ p k. never k;
+            marked = ap (λ n. n.prev) clean;
+          });
+    },
+  ),
+)

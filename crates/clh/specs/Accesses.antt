@@ -1,5 +1,5 @@
 -- Every word of the clh lock after every call.
-use Rattle.std.specs.Prelude.{ℕ, Bool, true, false, cond, replicate, is_some, Some, None, Ok, Err, Option, slice_index, slice_index_or, slice_set, refl}
+use Rattle.std.specs.Prelude.{ℕ, Bool, true, false, cond, map, replicate, is_some, Some, None, Ok, Err, Option, slice_index_or, slice_set, refl}
 use Rattle.std.specs.List.{range_with_len}
 use Rattle.std.specs.Option.{unwrap_or}
 use Rattle.lock.specs.declared.place.Place.{Place}
@@ -11,6 +11,7 @@ use Rattle.rows.specs.With.{with}
 use Rattle.clh.specs.declared.words.Label.{Label}
 use Rattle.clh.specs.declared.words.Label.TheVariants.{Out, W0, W1, W2, W3, Inside, X0, X1}
 use Rattle.clh.specs.declared.words.Node.{Node}
+use Rattle.clh.specs.declared.words.Worker.{Worker}
 use Rattle.clh.specs.declared.words.Words.{Words}
 
 abbrev pub place_of : Label → Place
@@ -26,24 +27,31 @@ place_of (X1 p) = places.Leaving
 abbrev pub blank : Node
 blank = record { wait = false; prev = None }
 
+abbrev pub outside : ℕ → Worker
+outside n = record { own = n; label = Out }
+
 -- each worker owns the node of its number, and node 16 is spare
 abbrev pub new_words : Words
-new_words = record { tail = 16; nodes = record { items = replicate 17 blank; whole = refl }; own = range_with_len 0 16; at = replicate 16 Out }
+new_words = record { tail = 16; nodes = record { items = replicate 17 blank; whole = refl }; workers = map outside (range_with_len 0 16) }
+
+-- whoever is not among the sixteen is outside
+abbrev pub worker : Words → ℕ → Worker
+worker s w = slice_index_or s.workers w (outside 0)
 
 abbrev pub label : Words → ℕ → Label
-label s w = slice_index_or s.at w Out
+label s w = (worker s w).label
 
 abbrev pub place : Words → ℕ → Place
 place s w = place_of (label s w)
 
 abbrev pub own : Words → ℕ → ℕ
-own s w = slice_index s.own w
+own s w = (worker s w).own
 
 abbrev pub node : Words → ℕ → Node
 node s n = slice_index_or s.nodes.items n blank
 
 abbrev pub set_node : Words → ℕ → Node → Words
-set_node s n x = record { tail = s.tail; nodes = with s.nodes n x; own = s.own; at = s.at }
+set_node s n x = record { tail = s.tail; nodes = with s.nodes n x; workers = s.workers }
 
 abbrev pub set_wait : Words → ℕ → Bool → Words
 set_wait s n b = set_node s n (record { wait = b; prev = (node s n).prev })
@@ -52,7 +60,7 @@ abbrev pub set_prev : Words → ℕ → Option ℕ → Words
 set_prev s n p = set_node s n (record { wait = (node s n).wait; prev = p })
 
 abbrev pub put : Words → ℕ → Label → Words
-put s w l = record { tail = s.tail; nodes = s.nodes; own = s.own; at = slice_set s.at w l }
+put s w l = record { tail = s.tail; nodes = s.nodes; workers = slice_set s.workers w (record { own = own s w; label = l }) }
 
 -- `prev` of the own node; the mark is that it is there
 abbrev pub before : Words → ℕ → Option ℕ
@@ -71,12 +79,12 @@ unlocked s w = known w s (unlocks (place s w) (mark s w) s (put s w (X0 (unwrap_
 abbrev pub access : Label → Words → ℕ → Outcome Words
 access Out s w = (s, Err Idle)
 access W0 s w = (put (set_wait s (own s w) true) w W1, Ok Done)
-access W1 s w = (record { tail = own s w; nodes = s.nodes; own = s.own; at = slice_set s.at w (W2 s.tail) }, Ok Done)
+access W1 s w = (record { tail = own s w; nodes = s.nodes; workers = (put s w (W2 s.tail)).workers }, Ok Done)
 access (W2 p) s w = (put (set_prev s (own s w) (Some p)) w (W3 p), Ok Done)
 access (W3 p) s w = cond (node s p).wait (s, Ok Done) (put s w Inside, Ok Entered)
 access Inside s w = (s, Err Idle)
 access (X0 p) s w = (put (set_wait s (own s w) false) w (X1 p), Ok Done)
-access (X1 p) s w = (record { tail = s.tail; nodes = (set_prev s p None).nodes; own = slice_set s.own w p; at = slice_set s.at w Out }, Ok Left)
+access (X1 p) s w = (record { tail = s.tail; nodes = (set_prev s p None).nodes; workers = slice_set s.workers w (outside p) }, Ok Left)
 
 abbrev pub stepped : Words → ℕ → Outcome Words
 stepped s w = known w s (access (label s w) s w)

@@ -10,7 +10,7 @@ use Rattle.clh.specs.declared.words.Words.{Words}
 use Rattle.clh.specs.Accesses.{label, own, node}
 
 abbrev pub Sixteen : Words → Type 0
-Sixteen s = (length s.at ≡ 16) × (length s.own ≡ 16)
+Sixteen s = length s.workers ≡ 16
 
 -- the labels of the workers in the line
 abbrev pub queued : Label → Bool
@@ -107,6 +107,5 @@ pub record Chained (tail : ℕ) (node : ℕ → Node) (own : ℕ → ℕ) (label
 abbrev pub Ordered : Words → Type 0
 Ordered s = (c : Chain) × Chained s.tail (node s) (own s) (label s) c
 
--- some line is chained so
-abbrev pub Lined : Words → Type 0
-Lined s = ∥ Ordered s ∥₁
+abbrev pub Holds : Words → Type 0
+Holds s = Sixteen s × Ordered s

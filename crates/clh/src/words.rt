@@ -1,8 +1,11 @@
 ghost use Rattle.std.specs.Prelude.{◌≡◌};
-ghost use Rattle.clh.specs.Accesses.{new_words, node, set_wait, set_prev, place_of, locked, unlocked, stepped};
+ghost use Rattle.std.specs.Option.{unwrap_or};
+ghost use Rattle.clh.specs.declared.words.Label.TheVariants.{W0, X0};
+ghost use Rattle.clh.specs.Accesses.{place_of as place_at, outside as outside_with, worker as worker_of, before as before_of, node, set_wait, set_prev, put as put_label};
 
-use lock::{Answer, Place, Refusal, index_of, item_or};
+use lock::{Algorithm, Answer, Place, Refusal, Ruled, item_or, put_item};
 use rows::Rows;
+use std::array;
 
 // The access that a worker has before it; from W2 on with the node before its own.
 #[derive(Clone, Copy)]
@@ -18,8 +21,8 @@ pub enum Label {
 }
 
 impl Label {
-    pub fn place(self) -> Place
-        ensures { result ≡ place_of self }
+    fn place(self) -> Place
+        ensures { result ≡ place_at self }
     {
         match self {
             Label::Out => Place::Out,
@@ -36,13 +39,29 @@ pub struct Node {
     pub prev: Option<u8>,
 }
 
-// The shared words, and each worker's own node and label.
+#[derive(Clone, Copy)]
+pub struct Worker {
+    pub own: u8,
+    pub label: Label,
+}
+
+impl Worker {
+    fn outside(own: u8) -> Worker
+        ensures { result ≡ outside_with own }
+    {
+        Worker {
+            own,
+            label: Label::Out,
+        }
+    }
+}
+
+// The shared words, and each worker with its own node and label.
 #[derive(Drop)]
 pub struct Words {
     pub tail: u8,
     pub nodes: Rows<Node, 17>,
-    pub own: [u8; 16],
-    pub at: [Label; 16],
+    pub workers: [Worker; 16],
 }
 
 const BLANK: Node = Node {
@@ -51,24 +70,34 @@ const BLANK: Node = Node {
 };
 
 impl Words {
-    // Each worker owns the node of its number, and node 16 is spare.
-    pub fn new() -> Words
-        ensures { result ≡ new_words }
+    // Whoever is not among the sixteen is outside.
+    fn worker(&self, w: u8) -> Worker
+        ensures { result ≡ worker_of self.now w }
     {
-        Words {
-            tail: 16,
-            nodes: Rows::new([BLANK; 17]),
-            own: [0, 1, 2, 3, 4, 5, 6, 7, 8, 9, 10, 11, 12, 13, 14, 15],
-            at: [Label::Out; 16],
-        }
+        item_or(&self.workers, w, Worker::outside(0))
     }
 
-    pub fn node(&self, n: u8) -> Node
+    fn put(&mut self, w: u8, label: Label)
+        ensures { self.new ≡ put_label self.old w label }
+    {
+        let own = self.worker(w).own;
+        put_item(&mut self.workers, w, Worker { own, label });
+    }
+
+    fn node(&self, n: u8) -> Node
         ensures { result ≡ node self.now n }
     {
         item_or(&self.nodes.items, n, BLANK)
     }
 
+    // The mark: `prev` of the own node, which the worker keeps.
+    fn before(&self, w: u8) -> Option<u8>
+        ensures { result ≡ before_of self.now w }
+    {
+        self.node(self.worker(w).own).prev
+    }
+
+    #[tactic(auto, using(rows::proofs::Lending::with_past))]
     fn set_wait(&mut self, n: u8, wait: bool)
         ensures { self.new ≡ set_wait self.old n wait }
     {
@@ -77,6 +106,7 @@ impl Words {
         }
     }
 
+    #[tactic(auto, using(rows::proofs::Lending::with_past))]
     fn set_prev(&mut self, n: u8, prev: Option<u8>)
         ensures { self.new ≡ set_prev self.old n prev }
     {
@@ -84,80 +114,110 @@ impl Words {
             node.prev = prev;
         }
     }
+}
 
-    pub fn lock(&mut self, w: u8) -> Result<Answer, Refusal>
-        ensures { (self.new, result) ≡ locked self.old w }
-    {
-        let i = index_of(w)?;
-        let label = self.at[i];
-        match label {
-            Label::Out => {
-                self.at[i] = Label::W0;
-                Ok(Answer::Done)
-            }
-            Label::Inside => Err(Refusal::Held),
-            _ => Err(Refusal::Busy),
+impl Algorithm for Words {
+    ghost use Rattle.clh.specs.Accesses.{new_words, label, place, mark, before, put, access};
+    ghost use Rattle.clh.specs.Distance.{distance};
+    ghost use Rattle.clh.specs.Facts.{Holds};
+
+    const BOUND: u32 = 5;
+
+    ghost BOUND = { 5 };
+
+    ghost place_of = { place };
+
+    ghost distance_of = { distance };
+
+    ghost shows = { mark };
+
+    ghost new = { new_words };
+
+    ghost come = { λ s w. put s w W0 };
+
+    // the leaving worker keeps what it read
+    ghost leave = { λ s w. put s w (X0 (unwrap_or (before s w) 0)) };
+
+    ghost access = { λ s w. access (label s w) s w };
+
+    ghost Holds = { Holds };
+
+    fn place_of(&self, w: u8) -> Place {
+        self.worker(w).label.place()
+    }
+
+    fn distance_of(&self, w: u8) -> Option<u32> {
+        match self.worker(w).label {
+            Label::X0(_) => Some(5),
+            Label::W0 if !self.node(self.tail).wait => Some(4),
+            Label::W1 if !self.node(self.tail).wait => Some(3),
+            Label::W2(pred) if !self.node(pred).wait => Some(2),
+            Label::W3(pred) if !self.node(pred).wait => Some(1),
+            _ => None,
         }
     }
 
-    // The mark is `prev` of the own node, which the worker keeps.
-    pub fn unlock(&mut self, w: u8) -> Result<Answer, Refusal>
-        ensures { (self.new, result) ≡ unlocked self.old w }
-    {
-        let i = index_of(w)?;
-        let label = self.at[i];
-        let prev = self.node(self.own[i]).prev;
-        match (label, prev) {
-            (Label::Out | Label::Inside, Some(pred)) => {
-                self.at[i] = Label::X0(pred);
-                Ok(Answer::Done)
-            }
-            (Label::Out | Label::Inside, None) => Err(Refusal::NotHeld),
-            _ => Err(Refusal::Busy),
+    fn shows(&self, w: u8) -> bool {
+        self.before(w).is_some()
+    }
+
+    // Each worker owns the node of its number, and node 16 is spare.
+    fn new() -> Words {
+        Words {
+            tail: 16,
+            nodes: Rows::new([BLANK; 17]),
+            workers: array::from_fn(|n| Worker::outside(n as u8)),
         }
     }
 
-    // One access by a worker on its way.
-    pub fn step(&mut self, w: u8) -> Result<Answer, Refusal>
-        ensures { (self.new, result) ≡ stepped self.old w }
-    {
-        let i = index_of(w)?;
-        let own = self.own[i];
-        let label = self.at[i];
+    fn come(&mut self, w: u8) {
+        self.put(w, Label::W0);
+    }
+
+    fn leave(&mut self, w: u8) {
+        let pred = self.before(w).unwrap_or(0);
+        self.put(w, Label::X0(pred));
+    }
+
+    fn access(&mut self, w: u8) -> Result<Answer, Refusal> {
+        let Worker { own, label } = self.worker(w);
         match label {
             Label::W0 => {
                 self.set_wait(own, true);
-                self.at[i] = Label::W1;
+                self.put(w, Label::W1);
                 Ok(Answer::Done)
             }
             Label::W1 => {
                 let pred = self.tail;
                 self.tail = own;
-                self.at[i] = Label::W2(pred);
+                self.put(w, Label::W2(pred));
                 Ok(Answer::Done)
             }
             Label::W2(pred) => {
                 self.set_prev(own, Some(pred));
-                self.at[i] = Label::W3(pred);
+                self.put(w, Label::W3(pred));
                 Ok(Answer::Done)
             }
             Label::W3(pred) if self.node(pred).wait => Ok(Answer::Done),
             Label::W3(_) => {
-                self.at[i] = Label::Inside;
+                self.put(w, Label::Inside);
                 Ok(Answer::Entered)
             }
             Label::X0(pred) => {
                 self.set_wait(own, false);
-                self.at[i] = Label::X1(pred);
+                self.put(w, Label::X1(pred));
                 Ok(Answer::Done)
             }
             Label::X1(pred) => {
-                self.own[i] = pred;
                 self.set_prev(pred, None);
-                self.at[i] = Label::Out;
+                put_item(&mut self.workers, w, Worker::outside(pred));
                 Ok(Answer::Left)
             }
             Label::Out | Label::Inside => Err(Refusal::Idle),
         }
     }
+}
+
+impl Ruled for Words {
+    fn keeps_rules() {}
 }

@@ -23,65 +23,27 @@ with_locked node w b = upd node w (record { next = (node w).next; locked = b })
 -- ## What a label says
 
 pub ahead_queued : (l : Label) → ahead l ≡ true → queued l ≡ true
-ahead_queued Out e = e
-ahead_queued W0 e = e
-ahead_queued W1 e = e
-ahead_queued (W2 p) e = refl
-ahead_queued (W3 p) e = refl
-ahead_queued W4 e = refl
 ahead_queued W5 e = refl
 ahead_queued Inside e = refl
 ahead_queued X0 e = refl
 ahead_queued X1 e = refl
 ahead_queued X2 e = refl
 ahead_queued (X3 n) e = refl
-ahead_queued X4 e = e
+ahead_queued _ e = absurd (false≢true e)
 
 pub link_queued : (l : Label) (q : ℕ) → link l ≡ Some q → queued l ≡ true
-link_queued Out q e = never e
-link_queued W0 q e = never e
-link_queued W1 q e = never e
 link_queued (W2 p) q e = refl
 link_queued (W3 p) q e = refl
-link_queued W4 q e = refl
-link_queued W5 q e = refl
-link_queued Inside q e = refl
-link_queued X0 q e = refl
-link_queued X1 q e = refl
-link_queued X2 q e = refl
-link_queued (X3 n) q e = refl
-link_queued X4 q e = never e
+link_queued _ q e = never e
 
 pub named_is : (l : Label) → named l ≡ true → l ≡ W4
-named_is Out e = absurd (false≢true e)
-named_is W0 e = absurd (false≢true e)
-named_is W1 e = absurd (false≢true e)
-named_is (W2 p) e = absurd (false≢true e)
-named_is (W3 p) e = absurd (false≢true e)
 named_is W4 e = refl
-named_is W5 e = absurd (false≢true e)
-named_is Inside e = absurd (false≢true e)
-named_is X0 e = absurd (false≢true e)
-named_is X1 e = absurd (false≢true e)
-named_is X2 e = absurd (false≢true e)
-named_is (X3 n) e = absurd (false≢true e)
-named_is X4 e = absurd (false≢true e)
+named_is _ e = absurd (false≢true e)
 
 -- whether it is the first matters to a named worker alone
 shut_same : (l : Label) (b c : Bool) → (named l ≡ true → b ≡ c) → shut l b ≡ shut l c
-shut_same Out b c e = refl
-shut_same W0 b c e = refl
-shut_same W1 b c e = refl
-shut_same (W2 p) b c e = refl
-shut_same (W3 p) b c e = refl
 shut_same W4 b c e = ap (shut W4) (e refl)
-shut_same W5 b c e = refl
-shut_same Inside b c e = refl
-shut_same X0 b c e = refl
-shut_same X1 b c e = refl
-shut_same X2 b c e = refl
-shut_same (X3 n) b c e = refl
-shut_same X4 b c e = refl
+shut_same _ b c e = refl
 
 -- ## The ends of the line
 

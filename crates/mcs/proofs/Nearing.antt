@@ -1,5 +1,6 @@
 -- Somebody always has a distance, and each access leads on.
 use Rattle.std.proofs.Common.{◌≡◌, ℕ, ◌+◌, ◌-◌, ◌<◌, ◌≤◌, Bool, true, false, cond, ◌⊎◌, is_some, Some, None, Option, sym, refl, ap, ◌∙◌, inl, inr, ⊎_elim, arith}
+use Rattle.std.proofs.lemmas.Option.{cond_some}
 use Rattle.std.proofs.lemmas.Bool.{cases_lt, cases_eq, eq-eqb, false≢true}
 use Rattle.lock.proofs.Small.{never}
 use Rattle.lock.specs.declared.place.Place.TheVariants as place
@@ -17,10 +18,6 @@ use Rattle.mcs.specs.Facts.{queued, ahead, named, shut, link, Chained}
 use Rattle.mcs.proofs.Keeps.{with_next, with_locked, final_empty, behind_at, standing, preceded, unnamed, alone, heir, keep_last}
 
 -- ## What a distance says
-
-when_is : (b : Bool) (n d : ℕ) → cond b (Some n) None ≡ Some d → (b ≡ true) × (n ≡ d)
-when_is true n d e = (refl, cc)
-when_is false n d e = never e
 
 unless_is : (b : Bool) (n d : ℕ) → cond b None (Some n) ≡ Some d → (b ≡ false) × (n ≡ d)
 unless_is true n d e = never e
@@ -44,35 +41,25 @@ within : (p : ℕ) (b : Bool) (m n d : ℕ) → cond b (Some m) (Some n) ≡ Som
 within p b m n d e u v x y = ⊎_elim (λ z. (omega (arith, z.1, u), omega (arith, z.1, v))) (λ z. (omega (arith, z.1, x), omega (arith, z.1, y))) (either_is b m n d e)
 
 pub fitting : (last : Option ℕ) (own : Node) (label : ℕ → Label) (l : Label) (d : ℕ) → distance_at last own label l ≡ Some d → Fitting 10 (place_of l) d
-fitting last own label Out d e = never e
 fitting last own label W0 d e = let z = (unless_is _ 3 d e).1 in (inl refl, omega (arith, z), omega (arith, z))
 fitting last own label W1 d e = let z = (unless_is _ 2 d e).1 in (inl refl, omega (arith, z), omega (arith, z))
-fitting last own label (W2 p) d e = let z = (when_is _ 6 d e).1 in (inl refl, omega (arith, z), omega (arith, z))
-fitting last own label (W3 p) d e = let z = (when_is _ 5 d e).1 in (inl refl, omega (arith, z), omega (arith, z))
+fitting last own label (W2 p) d e = let z = (cond_some _ 6 d e).1 in (inl refl, omega (arith, z), omega (arith, z))
+fitting last own label (W3 p) d e = let z = (cond_some _ 5 d e).1 in (inl refl, omega (arith, z), omega (arith, z))
 fitting last own label W4 d e = let z = (unless_is _ 2 d e).1 in (inl refl, omega (arith, z), omega (arith, z))
 fitting last own label W5 d e = let z : 1 ≡ d = cc in (inl refl, omega (arith, z), omega (arith, z))
-fitting last own label Inside d e = never e
 fitting last own label X0 d e = let z = within 10 _ 4 8 d e (omega arith) (omega arith) (omega arith) (omega arith) in (inr refl, z.0, z.1)
 fitting last own label X1 d e = let z = within 10 _ 5 7 d e (omega arith) (omega arith) (omega arith) (omega arith) in (inr refl, z.0, z.1)
-fitting last own label X2 d e = let z = (when_is _ 4 d e).1 in (inr refl, omega (arith, z), omega (arith, z))
+fitting last own label X2 d e = let z = (cond_some _ 4 d e).1 in (inr refl, omega (arith, z), omega (arith, z))
 fitting last own label (X3 n) d e = let z : 3 ≡ d = cc in (inr refl, omega (arith, z), omega (arith, z))
-fitting last own label X4 d e = never e
+fitting last own label _ d e = never e
 
 -- one that is not in the line has a distance while nobody is
 coming : (last : Option ℕ) (own : Node) (label : ℕ → Label) (l : Label) (d : ℕ) → distance_at last own label l ≡ Some d → (queued l ≡ true) ⊎ ((is_some last ≡ false) × (d < 4))
 coming last own label Out d e = never e
 coming last own label W0 d e = let z = unless_is _ 3 d e in inr (z.0, omega (arith, z.1))
 coming last own label W1 d e = let z = unless_is _ 2 d e in inr (z.0, omega (arith, z.1))
-coming last own label (W2 p) d e = inl refl
-coming last own label (W3 p) d e = inl refl
-coming last own label W4 d e = inl refl
-coming last own label W5 d e = inl refl
-coming last own label Inside d e = inl refl
-coming last own label X0 d e = inl refl
-coming last own label X1 d e = inl refl
-coming last own label X2 d e = inl refl
-coming last own label (X3 n) d e = inl refl
 coming last own label X4 d e = never e
+coming last own label _ d e = inl refl
 
 -- a link makes no distance longer
 linked_nearer : (b c : Bool) (m n d : ℕ) → m ≤ n → (b ≡ true → c ≡ true) → cond b (Some m) (Some n) ≡ Some d → (e : ℕ) × (cond c (Some m) (Some n) ≡ Some e) × (e < d + 1)
@@ -86,19 +73,15 @@ nearer : (last next : Option ℕ) (own after : Node) (label labels : ℕ → Lab
     → (own.locked ≡ false → after.locked ≡ false) × (is_some own.next ≡ true → is_some after.next ≡ true)
     → ((p : ℕ) → link l ≡ Some p → unlinked (label p) ≡ true → unlinked (labels p) ≡ true)
     → distance_at last own label l ≡ Some d → (e : ℕ) × (distance_at next after labels l ≡ Some e) × (e < d + 1)
-nearer last next own after label labels Out d f g m e = never e
 nearer last next own after label labels W0 d f g m e = let z = unless_is _ 3 d e in (3, unless_so _ 3 (f z.0), omega (arith, z.1))
 nearer last next own after label labels W1 d f g m e = let z = unless_is _ 2 d e in (2, unless_so _ 2 (f z.0), omega (arith, z.1))
-nearer last next own after label labels (W2 p) d f g m e = let z = when_is _ 6 d e in (6, when_so _ 6 (m p refl z.0), omega (arith, z.1))
-nearer last next own after label labels (W3 p) d f g m e = let z = when_is _ 5 d e in (5, when_so _ 5 (m p refl z.0), omega (arith, z.1))
+nearer last next own after label labels (W2 p) d f g m e = let z = cond_some _ 6 d e in (6, when_so _ 6 (m p refl z.0), omega (arith, z.1))
+nearer last next own after label labels (W3 p) d f g m e = let z = cond_some _ 5 d e in (5, when_so _ 5 (m p refl z.0), omega (arith, z.1))
 nearer last next own after label labels W4 d f g m e = let z = unless_is _ 2 d e in (2, unless_so _ 2 (g.0 z.0), omega (arith, z.1))
-nearer last next own after label labels W5 d f g m e = (d, e, omega arith)
-nearer last next own after label labels Inside d f g m e = never e
 nearer last next own after label labels X0 d f g m e = linked_nearer _ _ 4 8 d (omega arith) g.1 e
 nearer last next own after label labels X1 d f g m e = linked_nearer _ _ 5 7 d (omega arith) g.1 e
-nearer last next own after label labels X2 d f g m e = let z = when_is _ 4 d e in (4, when_so _ 4 (g.1 z.0), omega (arith, z.1))
-nearer last next own after label labels (X3 n) d f g m e = (d, e, omega arith)
-nearer last next own after label labels X4 d f g m e = never e
+nearer last next own after label labels X2 d f g m e = let z = cond_some _ 4 d e in (4, when_so _ 4 (g.1 z.0), omega (arith, z.1))
+nearer last next own after label labels _ d f g m e = (d, e, omega arith)
 
 abbrev pub distances : Option ℕ → (ℕ → Node) → (ℕ → Label) → ℕ → Option ℕ
 distances last node label v = distance_at last (node v) label (label v)
@@ -146,9 +129,6 @@ module _ {last : Option ℕ} {node : ℕ → Node} {label : ℕ → Label} {o : 
       not_first e = absurd (omega (arith, (h.stands u a).front e, m.1, i))
 
       by_label : (x : Label) → label u ≡ x → (label u ≡ W2 w) ⊎ (label u ≡ W3 w)
-      by_label Out e = not_out (ap queued e)
-      by_label W0 e = not_out (ap queued e)
-      by_label W1 e = not_out (ap queued e)
       by_label (W2 p) e = inl (e ∙ ap W2 (is_w p (ap link e)))
       by_label (W3 p) e = inr (e ∙ ap W3 (is_w p (ap link e)))
       by_label W4 e = never (sym none ∙ ((h.stands w lt).linked q ∙ (behind_at o label (o.rank w + 1) l ∙ ap (λ b. cond b (Some u) None) (ap named e))))
@@ -158,16 +138,13 @@ module _ {last : Option ℕ} {node : ℕ → Node} {label : ℕ → Label} {o : 
       by_label X1 e = not_first (ap ahead e)
       by_label X2 e = not_first (ap ahead e)
       by_label (X3 n) e = not_first (ap ahead e)
-      by_label X4 e = not_out (ap queued e)
+      by_label _ e = not_out (ap queued e)
 
   far_at : (v : ℕ) (l : Label) → label v ≡ l → (d : ℕ) → distance_at last (node v) label l ≡ Some d → far v ≡ Some d
   far_at v l e d k = ap (distance_at last (node v) label) e ∙ k
 
   -- the first in the line, or the one behind it
   first_at : (v : ℕ) → v < 16 → (l : Label) → label v ≡ l → queued l ≡ true → o.rank v ≡ o.first → (place_of l ≡ place.Inside → ⊥) → SomeDistance far
-  first_at v a Out e q r i = absurd (false≢true q)
-  first_at v a W0 e q r i = absurd (false≢true q)
-  first_at v a W1 e q r i = absurd (false≢true q)
   first_at v a (W2 p) e q r i = absurd (omega (arith, r, ((standing h v a (W2 p) e).before p refl).0))
   first_at v a (W3 p) e q r i = absurd (omega (arith, r, ((standing h v a (W3 p) e).before p refl).0))
   first_at v a W4 e q r i = (v, 2, a, far_at v W4 e 2 (unless_so _ 2 ((standing h v a W4 e).flag ∙ ap (shut W4) (eq-eqb _ _ r))))
@@ -182,23 +159,15 @@ module _ {last : Option ℕ} {node : ℕ → Node} {label : ℕ → Label} {o : 
       by_next None k = let u = follower v a (ap queued e) ((standing h v a X2 e).follows refl) k in
           ⊎_elim (λ z. (u.0, 6, u.1, far_at u.0 (W2 v) z 6 (when_so _ 6 (ap unlinked e)))) (λ z. (u.0, 5, u.1, far_at u.0 (W3 v) z 5 (when_so _ 5 (ap unlinked e)))) u.2
   first_at v a (X3 n) e q r i = (v, 3, a, far_at v (X3 n) e 3 refl)
-  first_at v a X4 e q r i = absurd (false≢true q)
+  first_at v a _ e q r i = absurd (false≢true q)
 
   -- one that comes to an empty line
   comer_at : (l : Label) (own : Node) → place_of l ≡ place.Waiting → (queued l ≡ true → ⊥) → last ≡ None → (d : ℕ) × (distance_at last own label l ≡ Some d)
   comer_at Out own e n z = grind (arith, e)
   comer_at W0 own e n z = (3, unless_so _ 3 (ap is_some z))
   comer_at W1 own e n z = (2, unless_so _ 2 (ap is_some z))
-  comer_at (W2 p) own e n z = absurd (n refl)
-  comer_at (W3 p) own e n z = absurd (n refl)
-  comer_at W4 own e n z = absurd (n refl)
-  comer_at W5 own e n z = absurd (n refl)
-  comer_at Inside own e n z = absurd (n refl)
-  comer_at X0 own e n z = absurd (n refl)
-  comer_at X1 own e n z = absurd (n refl)
-  comer_at X2 own e n z = absurd (n refl)
-  comer_at (X3 p) own e n z = absurd (n refl)
   comer_at X4 own e n z = grind (arith, e)
+  comer_at _ own e n z = absurd (n refl)
 
   pub some : Free place_of label → Waits place_of label → SomeDistance far
   some free (w, lt, e) = ⊎_elim
@@ -253,12 +222,12 @@ module _ {last : Option ℕ} {node : ℕ → Node} {label : ℕ → Label} {o : 
 
     pub on_W2 : (p : ℕ) → label w ≡ W2 p → Onward w far (distances last (with_locked node w true) (upd label w (W3 p)))
     on_W2 p e = onward last (with_locked node w true) (W3 p) (λ k. k) (λ v ne. unwritten (node v) _ (upd_other node w v _ ne)) (λ v q a ne k. still (W3 p) (W2 p) e refl q)
-        (λ d k. let z = when_is _ 6 d (far_is (W2 p) e d k) in nears last (with_locked node w true) (W3 p) d 5 (when_so _ 5 (still (W3 p) (W2 p) e refl p z.0)) (omega (arith, z.1)))
+        (λ d k. let z = cond_some _ 6 d (far_is (W2 p) e d k) in nears last (with_locked node w true) (W3 p) d 5 (when_so _ 5 (still (W3 p) (W2 p) e refl p z.0)) (omega (arith, z.1)))
 
     -- the one before, if it waits for its link, goes on
     pub on_W3 : (p : ℕ) → label w ≡ W3 p → Onward w far (distances last (with_next node p (Some w)) (upd label w W4))
     on_W3 p e = onward last after W4 (λ k. k) (λ v ne. written node p x (λ k. k, λ k. refl) v) (λ v q a ne k. still W4 (W3 p) e refl q)
-        (λ d k. let z = when_is _ 5 d (far_is (W3 p) e d k) in
+        (λ d k. let z = cond_some _ 5 d (far_is (W3 p) e d k) in
         let b = preceded h w lt p (ap link e) in
         (p, 4, b.0, ap (distance_at last (after p) (upd label w W4)) (upd_other label w p W4 (λ y. omega (arith, b.2, ap o.rank y)) ∙ unlinked_is (label p) z.0) ∙ when_so _ 4 (ap (λ y. is_some y.next) (upd_same node p x)), omega (arith, z.1)))
       where
@@ -269,19 +238,8 @@ module _ {last : Option ℕ} {node : ℕ → Node} {label : ℕ → Label} {o : 
         after = upd node p x
 
         unlinked_is : (l : Label) → unlinked l ≡ true → l ≡ X2
-        unlinked_is Out k = absurd (false≢true k)
-        unlinked_is W0 k = absurd (false≢true k)
-        unlinked_is W1 k = absurd (false≢true k)
-        unlinked_is (W2 q) k = absurd (false≢true k)
-        unlinked_is (W3 q) k = absurd (false≢true k)
-        unlinked_is W4 k = absurd (false≢true k)
-        unlinked_is W5 k = absurd (false≢true k)
-        unlinked_is Inside k = absurd (false≢true k)
-        unlinked_is X0 k = absurd (false≢true k)
-        unlinked_is X1 k = absurd (false≢true k)
         unlinked_is X2 k = refl
-        unlinked_is (X3 q) k = absurd (false≢true k)
-        unlinked_is X4 k = absurd (false≢true k)
+        unlinked_is _ k = absurd (false≢true k)
 
     pub on_wait : label w ≡ W4 → (node w).locked ≡ true → Onward w far (distances last node (upd label w W4))
     on_wait e f = onward last node W4 (λ k. k) (λ v ne. unwritten (node v) _ refl) (λ v q a ne k. still W4 W4 e refl q)
@@ -327,7 +285,7 @@ module _ {last : Option ℕ} {node : ℕ → Node} {label : ℕ → Label} {o : 
     pub on_X2 : (n : ℕ) → label w ≡ X2 → (node w).next ≡ Some n → Onward w far (distances last node (upd label w (X3 n)))
     on_X2 n e next = onward last node (X3 n) (λ k. k) (λ v ne. unwritten (node v) _ refl)
         (λ v p a ne k f. ⊎_elim (λ is. absurd (unnamed h v a p n k (ap (λ u. (node u).next) is ∙ next))) (λ not. ap unlinked (upd_other label w p (X3 n) not) ∙ f) (cases_eq p w))
-        (λ d k. nears last node (X3 n) d 3 refl (omega (arith, (when_is _ 4 d (far_is X2 e d k)).1)))
+        (λ d k. nears last node (X3 n) d 3 refl (omega (arith, (cond_some _ 4 d (far_is X2 e d k)).1)))
 
     pub on_X3 : (n : ℕ) → label w ≡ X3 n → Onward w far (distances last (with_locked node n false) (upd label w X4))
     on_X3 n e = onward last after X4 (λ k. k) (λ v ne. written node n x (λ k. refl, λ k. k) v) (λ v q a ne k. still X4 (X3 n) e refl q)

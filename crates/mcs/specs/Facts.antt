@@ -117,6 +117,5 @@ pub record Chained (last : Option ℕ) (node : ℕ → Node) (label : ℕ → La
 abbrev pub Ordered : Words → Type 0
 Ordered s = (o : Line) × Chained s.last (node s) (label s) o
 
--- some line is so
-abbrev pub Lined : Words → Type 0
-Lined s = ∥ Ordered s ∥₁
+abbrev pub Holds : Words → Type 0
+Holds s = Sixteen s × Ordered s

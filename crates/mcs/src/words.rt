@@ -1,8 +1,9 @@
 ghost use Rattle.std.specs.Prelude.{◌≡◌};
+ghost use Rattle.mcs.specs.declared.words.Label.TheVariants.{W0, X0};
 ghost use Rattle.mcs.specs.Distance.{unlinked as unlinked_of};
-ghost use Rattle.mcs.specs.Accesses.{new_words, node, set_next, set_locked, place_of, answer_of, swapped as swapped_of, linked as linked_of, access as access_of, locked, unlocked, stepped};
+ghost use Rattle.mcs.specs.Accesses.{place_of as place_at, answer_of, label as label_of, node, set_next, set_locked, access as access_of};
 
-use lock::{Answer, Place, Refusal, index_of, item_or};
+use lock::{Algorithm, Answer, Place, Refusal, Ruled, item_or, put_item};
 use rows::Rows;
 
 // The access that a worker has before it; at W2 and W3 with the worker before it, at X3 with the one behind it.
@@ -24,8 +25,8 @@ pub enum Label {
 }
 
 impl Label {
-    pub fn place(self) -> Place
-        ensures { result ≡ place_of self }
+    fn place(self) -> Place
+        ensures { result ≡ place_at self }
     {
         match self {
             Label::Out => Place::Out,
@@ -49,13 +50,10 @@ impl Label {
     }
 
     // Whether the worker waits for the one behind it to write its `next`.
-    pub fn unlinked(self) -> bool
+    fn unlinked(self) -> bool
         ensures { result ≡ unlinked_of self }
     {
-        match self {
-            Label::X2 => true,
-            _ => false,
-        }
+        matches!(self, Label::X2)
     }
 }
 
@@ -73,48 +71,25 @@ pub struct Words {
     pub at: [Label; 16],
 }
 
-// The label after the swap of `last`, by what came back.
-fn swapped(pred: Option<u8>) -> Label
-    ensures { result ≡ swapped_of pred }
-{
-    match pred {
-        None => Label::W5,
-        Some(p) => Label::W2(p),
-    }
-}
-
-// The label after reading the own `next`, where `other` is that for none.
-fn linked(next: Option<u8>, other: Label) -> Label
-    ensures { result ≡ linked_of other next }
-{
-    match next {
-        None => other,
-        Some(succ) => Label::X3(succ),
-    }
-}
-
 const BLANK: Node = Node {
     next: None,
     locked: false,
 };
 
 impl Words {
-    pub fn new() -> Words
-        ensures { result ≡ new_words }
+    fn label(&self, w: u8) -> Label
+        ensures { result ≡ label_of self.now w }
     {
-        Words {
-            last: None,
-            nodes: Rows::new([BLANK; 16]),
-            at: [Label::Out; 16],
-        }
+        item_or(&self.at, w, Label::Out)
     }
 
-    pub fn node(&self, w: u8) -> Node
+    fn node(&self, w: u8) -> Node
         ensures { result ≡ node self.now w }
     {
         item_or(&self.nodes.items, w, BLANK)
     }
 
+    #[tactic(auto, using(rows::proofs::Lending::with_past))]
     fn set_next(&mut self, w: u8, next: Option<u8>)
         ensures { self.new ≡ set_next self.old w next }
     {
@@ -123,6 +98,7 @@ impl Words {
         }
     }
 
+    #[tactic(auto, using(rows::proofs::Lending::with_past))]
     fn set_locked(&mut self, w: u8, locked: bool)
         ensures { self.new ≡ set_locked self.old w locked }
     {
@@ -131,39 +107,8 @@ impl Words {
         }
     }
 
-    pub fn lock(&mut self, w: u8) -> Result<Answer, Refusal>
-        ensures { (self.new, result) ≡ locked self.old w }
-    {
-        let i = index_of(w)?;
-        let label = self.at[i];
-        match label {
-            Label::Out => {
-                self.at[i] = Label::W0;
-                Ok(Answer::Done)
-            }
-            Label::Inside => Err(Refusal::Held),
-            _ => Err(Refusal::Busy),
-        }
-    }
-
-    // The mark is the own `locked`.
-    pub fn unlock(&mut self, w: u8) -> Result<Answer, Refusal>
-        ensures { (self.new, result) ≡ unlocked self.old w }
-    {
-        let i = index_of(w)?;
-        let label = self.at[i];
-        match label {
-            Label::Out | Label::Inside if self.node(w).locked => {
-                self.at[i] = Label::X0;
-                Ok(Answer::Done)
-            }
-            Label::Out | Label::Inside => Err(Refusal::NotHeld),
-            _ => Err(Refusal::Busy),
-        }
-    }
-
     // The access at a label: what it writes, and the label after it.
-    fn access(&mut self, w: u8, label: Label) -> Label
+    fn pass(&mut self, w: u8, label: Label) -> Label
         ensures { (self.new, result) ≡ access_of label self.old w }
     {
         match label {
@@ -171,7 +116,7 @@ impl Words {
                 self.set_next(w, None);
                 Label::W1
             }
-            Label::W1 => swapped(self.last.replace(w)),
+            Label::W1 => self.last.replace(w).map_or(Label::W5, Label::W2),
             Label::W2(pred) => {
                 self.set_locked(w, true);
                 Label::W3(pred)
@@ -186,13 +131,13 @@ impl Words {
                 self.set_locked(w, true);
                 Label::Inside
             }
-            Label::X0 => linked(self.node(w).next, Label::X1),
+            Label::X0 => self.node(w).next.map_or(Label::X1, Label::X3),
             Label::X1 if self.last == Some(w) => {
                 self.last = None;
                 Label::X4
             }
             Label::X1 => Label::X2,
-            Label::X2 => linked(self.node(w).next, Label::X2),
+            Label::X2 => self.node(w).next.map_or(Label::X2, Label::X3),
             Label::X3(succ) => {
                 self.set_locked(succ, false);
                 Label::X4
@@ -204,16 +149,86 @@ impl Words {
             Label::Out | Label::Inside => label,
         }
     }
+}
 
-    // One access by a worker on its way.
-    pub fn step(&mut self, w: u8) -> Result<Answer, Refusal>
-        ensures { (self.new, result) ≡ stepped self.old w }
-    {
-        let i = index_of(w)?;
-        let label = self.at[i];
+impl Algorithm for Words {
+    ghost use Rattle.mcs.specs.Accesses.{new_words, label, place, mark, put, answer_of, answered, moved, access};
+    ghost use Rattle.mcs.specs.Distance.{distance};
+    ghost use Rattle.mcs.specs.Facts.{Holds};
+
+    const BOUND: u32 = 10;
+
+    ghost BOUND = { 10 };
+
+    ghost place_of = { place };
+
+    ghost distance_of = { distance };
+
+    ghost shows = { mark };
+
+    ghost new = { new_words };
+
+    ghost come = { λ s w. put s w W0 };
+
+    ghost leave = { λ s w. put s w X0 };
+
+    ghost access = { λ s w. answered (answer_of (label s w)) s (moved (access (label s w) s w) w) };
+
+    ghost Holds = { Holds };
+
+    fn place_of(&self, w: u8) -> Place {
+        self.label(w).place()
+    }
+
+    fn distance_of(&self, w: u8) -> Option<u32> {
+        let own = self.node(w);
+        match self.label(w) {
+            Label::W0 if self.last.is_none() => Some(3),
+            Label::W1 if self.last.is_none() => Some(2),
+            Label::W2(pred) if self.label(pred).unlinked() => Some(6),
+            Label::W3(pred) if self.label(pred).unlinked() => Some(5),
+            Label::W4 if !own.locked => Some(2),
+            Label::W5 => Some(1),
+            Label::X0 if own.next.is_some() => Some(4),
+            Label::X0 => Some(8),
+            Label::X1 if own.next.is_some() => Some(5),
+            Label::X1 => Some(7),
+            Label::X2 if own.next.is_some() => Some(4),
+            Label::X3(_) => Some(3),
+            _ => None,
+        }
+    }
+
+    // The mark is the own `locked`.
+    fn shows(&self, w: u8) -> bool {
+        self.node(w).locked
+    }
+
+    fn new() -> Words {
+        Words {
+            last: None,
+            nodes: Rows::new([BLANK; 16]),
+            at: [Label::Out; 16],
+        }
+    }
+
+    fn come(&mut self, w: u8) {
+        put_item(&mut self.at, w, Label::W0);
+    }
+
+    fn leave(&mut self, w: u8) {
+        put_item(&mut self.at, w, Label::X0);
+    }
+
+    fn access(&mut self, w: u8) -> Result<Answer, Refusal> {
+        let label = self.label(w);
         let answer = label.answer()?;
-        let next = self.access(w, label);
-        self.at[i] = next;
+        let next = self.pass(w, label);
+        put_item(&mut self.at, w, next);
         Ok(answer)
     }
+}
+
+impl Ruled for Words {
+    fn keeps_rules() {}
 }

@@ -1,5 +1,0 @@
-use Rattle.clh.proofs.Rules.{new_kept}
-use Rattle.clh.proofs.ClhLock.new.Goals as goal
-
-pub invariant_of-result : goal.invariant_of-result
-invariant_of-result c = new_kept _ c.new.ensures

@@ -1,5 +1,0 @@
-use Rattle.clh.proofs.Rules.{kept, step_good}
-use Rattle.clh.proofs.ClhLock.step.Goals as goal
-
-pub invariant_of-self : goal.invariant_of-self
-invariant_of-self c = let s = c.args.self.now in kept s c.args.w _ _ _ _ c.step.ensures (step_good s c.args.w)

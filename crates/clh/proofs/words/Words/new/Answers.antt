@@ -1,5 +1,0 @@
-use Rattle.clh.proofs.Nodes.{new_nodes}
-use Rattle.clh.proofs.words.Words.new.Goals as goal
-
-pub returns : goal.returns
-returns c = new_nodes c.new.result c.new.ensures

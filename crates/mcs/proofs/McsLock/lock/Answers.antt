@@ -1,5 +1,0 @@
-use Rattle.mcs.proofs.Rules.{kept, lock_good}
-use Rattle.mcs.proofs.McsLock.lock.Goals as goal
-
-pub invariant_of-self : goal.invariant_of-self
-invariant_of-self c = let s = c.args.self.now in kept s c.args.w _ _ _ _ c.lock.ensures (lock_good s c.args.w)
