@@ -34,8 +34,5 @@ abbrev pub Ordered : Words → Type 0
 Ordered s = (o : Line) × Counted s.next (opened s) (number s) (stage s) o
 
 -- some line is counted so
-abbrev pub Lined : Words → Type 0
-Lined s = ∥ Ordered s ∥₁
-
 abbrev pub Holds : Words → Type 0
 Holds s = Sixteen s × Ordered s

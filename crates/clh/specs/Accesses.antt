@@ -1,5 +1,5 @@
 -- Every word of the clh lock after every call.
-use Rattle.std.specs.Prelude.{ℕ, Bool, true, false, cond, map, replicate, is_some, Some, None, Ok, Err, Option, slice_index_or, slice_set, refl}
+use Rattle.std.specs.Prelude.{ℕ, Bool, true, false, if◌then◌else◌, map, replicate, is_some, Some, None, Ok, Err, Option, slice_index_or, slice_set, refl}
 use Rattle.std.specs.List.{range_with_len}
 use Rattle.std.specs.Option.{unwrap_or}
 use Rattle.lock.specs.declared.place.Place.{Place}
@@ -81,7 +81,7 @@ access Out s w = (s, Err Idle)
 access W0 s w = (put (set_wait s (own s w) true) w W1, Ok Done)
 access W1 s w = (record { tail = own s w; nodes = s.nodes; workers = (put s w (W2 s.tail)).workers }, Ok Done)
 access (W2 p) s w = (put (set_prev s (own s w) (Some p)) w (W3 p), Ok Done)
-access (W3 p) s w = cond (node s p).wait (s, Ok Done) (put s w Inside, Ok Entered)
+access (W3 p) s w = if (node s p).wait then (s, Ok Done) else (put s w Inside, Ok Entered)
 access Inside s w = (s, Err Idle)
 access (X0 p) s w = (put (set_wait s (own s w) false) w (X1 p), Ok Done)
 access (X1 p) s w = (record { tail = s.tail; nodes = (set_prev s p None).nodes; workers = slice_set s.workers w (outside p) }, Ok Left)

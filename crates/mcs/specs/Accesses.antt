@@ -1,5 +1,5 @@
 -- Every word of the mcs lock after every call.
-use Rattle.std.specs.Prelude.{ℕ, Bool, true, false, cond, replicate, Some, None, Ok, Err, Option, Result, ◌==◌, slice_index_or, slice_set, refl}
+use Rattle.std.specs.Prelude.{ℕ, Bool, true, false, if◌then◌else◌, replicate, Some, None, Ok, Err, Option, Result, ◌==◌, slice_index_or, slice_set, refl}
 use Rattle.lock.specs.declared.place.Place.{Place}
 use Rattle.lock.specs.declared.place.Place.TheVariants as places
 use Rattle.lock.specs.declared.answer.Answer.{Answer}
@@ -106,11 +106,11 @@ access W0 s w = (set_next s w None, W1)
 access W1 s w = (set_last s (Some w), swapped s.last)
 access (W2 p) s w = (set_locked s w true, W3 p)
 access (W3 p) s w = (set_next s p (Some w), W4)
-access W4 s w = (s, cond (node s w).locked W4 W5)
+access W4 s w = (s, if (node s w).locked then W4 else W5)
 access W5 s w = (set_locked s w true, Inside)
 access Inside s w = (s, Inside)
 access X0 s w = (s, linked X1 (node s w).next)
-access X1 s w = cond (ends s.last w) (set_last s None, X4) (s, X2)
+access X1 s w = if ends s.last w then (set_last s None, X4) else (s, X2)
 access X2 s w = (s, linked X2 (node s w).next)
 access (X3 n) s w = (set_locked s n false, X4)
 access X4 s w = (set_locked s w false, Out)

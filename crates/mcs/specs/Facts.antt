@@ -1,6 +1,6 @@
 -- What holds of the words at every moment: the workers that have swapped `last` and not yet handed on stand in a
 -- line, and the `next` of each names the one behind it where that one has linked itself and waits.
-use Rattle.std.specs.Prelude.{◌≡◌, ℕ, ◌+◌, ◌-◌, ◌<◌, Bool, true, false, cond, length, Some, None, Option, ◌==◌, nat_lt}
+use Rattle.std.specs.Prelude.{◌≡◌, ℕ, ◌+◌, ◌-◌, ◌<◌, Bool, true, false, if◌then◌else◌, length, Some, None, Option, ◌==◌, nat_lt}
 use Rattle.queue.specs.Line.{Line, Order}
 use Rattle.mcs.specs.declared.words.Label.{Label}
 use Rattle.mcs.specs.declared.words.Label.TheVariants.{Out, W0, W1, W2, W3, W4, W5, Inside, X0, X1, X2, X3, X4}
@@ -66,7 +66,7 @@ shut W0 first = false
 shut W1 first = false
 shut (W2 p) first = false
 shut (W3 p) first = true
-shut W4 first = cond first false true
+shut W4 first = if first then false else true
 shut W5 first = false
 shut Inside first = true
 shut X0 first = true
@@ -93,11 +93,11 @@ link X4 = None
 
 -- the worker of the rank r, where there is one and it is named
 abbrev pub behind : Line → (ℕ → Label) → ℕ → Option ℕ
-behind o label r = cond (nat_lt r o.end) (cond (named (label (o.who r))) (Some (o.who r)) None) None
+behind o label r = if nat_lt r o.end then (if named (label (o.who r)) then Some (o.who r) else None) else None
 
 -- the last of the line
 abbrev pub final : Line → Option ℕ
-final o = cond (nat_lt o.first o.end) (Some (o.who (o.end - 1))) None
+final o = if nat_lt o.first o.end then Some (o.who (o.end - 1)) else None
 
 -- of one worker, by its node and its label
 pub record Stands (own : Node) (o : Line) (label : ℕ → Label) (w : ℕ) (l : Label) : Type 0 where
