@@ -10,17 +10,24 @@ use Rattle.queue.specs.Stages.{place_of}
 use Rattle.queue.specs.Counter.{more}
 use Rattle.array.specs.declared.words.Label.{Label}
 use Rattle.array.specs.declared.words.Label.TheVariants.{Out, W0, W1, W2, Inside, X0}
+use Rattle.array.specs.declared.words.Worker.{Worker}
 use Rattle.array.specs.declared.words.Words.{Words}
 
+abbrev pub outside : Worker
+outside = record { number = None; label = Out }
+
 abbrev pub new_words : Words
-new_words = record { next = 0; slots = true ∷ replicate 15 false; numbers = replicate 16 None; at = replicate 16 Out }
+new_words = record { next = 0; slots = true ∷ replicate 15 false; workers = replicate 16 outside }
+
+abbrev pub worker : Words → ℕ → Worker
+worker s w = slice_index_or s.workers w outside
 
 abbrev pub label : Words → ℕ → Label
-label s w = slice_index_or s.at w Out
+label s w = (worker s w).label
 
 -- a worker's own slot number
 abbrev pub number : Words → ℕ → Option ℕ
-number s w = slice_index_or s.numbers w None
+number s w = (worker s w).number
 
 abbrev pub opened : Words → ℕ → Bool
 opened s k = slice_index_or s.slots k false
@@ -44,7 +51,7 @@ abbrev pub mark : Words → ℕ → Bool
 mark s w = is_some (number s w)
 
 abbrev pub put : Words → ℕ → Label → Words
-put s w l = record { next = s.next; slots = s.slots; numbers = s.numbers; at = slice_set s.at w l }
+put s w l = record { next = s.next; slots = s.slots; workers = slice_set s.workers w (record { number = number s w; label = l }) }
 
 abbrev pub locked : Words → ℕ → Outcome Words
 locked s w = known w s (locks (place s w) s (put s w W0))
@@ -56,14 +63,14 @@ unlocked s w = known w s (unlocks (place s w) (mark s w) s (put s w X0))
 -- it and gives the number back. From W1 on a worker has a number; without one it would stay.
 abbrev pub access : Label → Option ℕ → Words → ℕ → Outcome Words
 access Out k s w = (s, Err Idle)
-access W0 k s w = (record { next = more s.next; slots = s.slots; numbers = slice_set s.numbers w (Some (s.next % 16)); at = slice_set s.at w W1 }, Ok Done)
+access W0 k s w = (record { next = more s.next; slots = s.slots; workers = slice_set s.workers w (record { number = Some (s.next % 16); label = W1 }) }, Ok Done)
 access W1 None s w = (s, Ok Done)
 access W1 (Some k) s w = if opened s k then (put s w W2, Ok Done) else (s, Ok Done)
 access W2 None s w = (s, Ok Done)
-access W2 (Some k) s w = (record { next = s.next; slots = slice_set s.slots k false; numbers = s.numbers; at = slice_set s.at w Inside }, Ok Entered)
+access W2 (Some k) s w = (record { next = s.next; slots = slice_set s.slots k false; workers = (put s w Inside).workers }, Ok Entered)
 access Inside k s w = (s, Err Idle)
 access X0 None s w = (s, Ok Done)
-access X0 (Some k) s w = (record { next = s.next; slots = slice_set s.slots ((k + 1) % 16) true; numbers = slice_set s.numbers w None; at = slice_set s.at w Out }, Ok Left)
+access X0 (Some k) s w = (record { next = s.next; slots = slice_set s.slots ((k + 1) % 16) true; workers = slice_set s.workers w outside }, Ok Left)
 
 abbrev pub stepped : Words → ℕ → Outcome Words
 stepped s w = known w s (access (label s w) (number s w) s w)

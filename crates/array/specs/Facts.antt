@@ -9,7 +9,7 @@ use Rattle.array.specs.declared.words.Words.{Words}
 use Rattle.array.specs.Accesses.{number, opened, stage}
 
 abbrev pub Sixteen : Words → Type 0
-Sixteen s = (length s.at ≡ 16) × (length s.slots ≡ 16) × (length s.numbers ≡ 16)
+Sixteen s = (length s.workers ≡ 16) × (length s.slots ≡ 16)
 
 -- the stages at which a worker has shut its slot and not yet opened the one after it
 abbrev pub holds : Stage → Bool

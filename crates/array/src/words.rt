@@ -1,6 +1,6 @@
 ghost use Rattle.std.specs.Prelude.{◌≡◌};
 ghost use Rattle.array.specs.declared.words.Label.TheVariants.{W0, X0};
-ghost use Rattle.array.specs.Accesses.{new_words, label, number, opened, stage_at, place, mark, put, access};
+ghost use Rattle.array.specs.Accesses.{new_words, worker, label, number, opened, stage_at, place, mark, put, access};
 ghost use Rattle.array.specs.Distance.{turn_at, distance};
 ghost use Rattle.array.specs.Facts.{Holds};
 
@@ -33,26 +33,39 @@ impl Label {
     }
 }
 
-// The shared words, and each worker's own slot number and label. A slot is open where it is true.
+// A worker's own slot number, and its label.
+#[derive(Clone, Copy)]
+pub struct Worker {
+    pub number: Option<u8>,
+    pub label: Label,
+}
+
+// The shared words, and each worker. A slot is open where it is true.
 #[derive(Drop)]
 pub struct Words {
     pub next: u32,
     pub slots: [bool; 16],
-    pub numbers: [Option<u8>; 16],
-    pub at: [Label; 16],
+    pub workers: [Worker; 16],
 }
 
+const OUTSIDE: Worker = Worker {
+    number: None,
+    label: Label::Out,
+};
+
 impl Words {
-    fn label(&self, w: u8) -> Label
-        ensures { result ≡ label self.now w }
+    // Whoever is not among the sixteen is outside.
+    fn worker(&self, w: u8) -> Worker
+        ensures { result ≡ worker self.now w }
     {
-        item_or(&self.at, w, Label::Out)
+        item_or(&self.workers, w, OUTSIDE)
     }
 
-    fn number(&self, w: u8) -> Option<u8>
-        ensures { result ≡ number self.now w }
+    fn put(&mut self, w: u8, label: Label)
+        ensures { self.new ≡ put self.old w label }
     {
-        item_or(&self.numbers, w, None)
+        let number = self.worker(w).number;
+        put_item(&mut self.workers, w, Worker { number, label });
     }
 
     // Whether the slot of a worker at the stage is open, its own or that which it would be given.
@@ -89,16 +102,17 @@ impl Algorithm for Words {
     ghost Holds = { Holds };
 
     fn place_of(&self, w: u8) -> Place {
-        self.label(w).stage().place()
+        self.worker(w).label.stage().place()
     }
 
     fn distance_of(&self, w: u8) -> Option<u32> {
-        let stage = self.label(w).stage();
-        stage.distance(self.turn(stage, self.number(w)))
+        let Worker { number, label } = self.worker(w);
+        let stage = label.stage();
+        stage.distance(self.turn(stage, number))
     }
 
     fn shows(&self, w: u8) -> bool {
-        self.number(w).is_some()
+        self.worker(w).number.is_some()
     }
 
     fn new() -> Words {
@@ -107,41 +121,41 @@ impl Algorithm for Words {
         Words {
             next: 0,
             slots,
-            numbers: [None; 16],
-            at: [Label::Out; 16],
+            workers: [OUTSIDE; 16],
         }
     }
 
     fn come(&mut self, w: u8) {
-        put_item(&mut self.at, w, Label::W0);
+        self.put(w, Label::W0);
     }
 
     fn leave(&mut self, w: u8) {
-        put_item(&mut self.at, w, Label::X0);
+        self.put(w, Label::X0);
     }
 
     // A worker has a slot number from W1 on; without one it would stay.
     fn access(&mut self, w: u8) -> Result<Answer, Refusal> {
-        match (self.label(w), self.number(w)) {
+        let Worker { number, label } = self.worker(w);
+        match (label, number) {
             (Label::W0, _) => {
-                put_item(&mut self.numbers, w, Some((self.next % 16) as u8));
+                let number = Some((self.next % 16) as u8);
+                let label = Label::W1;
                 self.next = self.next.wrapping_add(1);
-                put_item(&mut self.at, w, Label::W1);
+                put_item(&mut self.workers, w, Worker { number, label });
                 Ok(Answer::Done)
             }
             (Label::W1, Some(k)) if item_or(&self.slots, k, false) => {
-                put_item(&mut self.at, w, Label::W2);
+                self.put(w, Label::W2);
                 Ok(Answer::Done)
             }
             (Label::W2, Some(k)) => {
                 put_item(&mut self.slots, k, false);
-                put_item(&mut self.at, w, Label::Inside);
+                self.put(w, Label::Inside);
                 Ok(Answer::Entered)
             }
             (Label::X0, Some(k)) => {
                 self.slots[(usize::from(k) + 1) % 16] = true;
-                put_item(&mut self.numbers, w, None);
-                put_item(&mut self.at, w, Label::Out);
+                put_item(&mut self.workers, w, OUTSIDE);
                 Ok(Answer::Left)
             }
             (Label::W1 | Label::W2 | Label::X0, _) => Ok(Answer::Done),

@@ -17,7 +17,7 @@ use Rattle.lock.proofs.Small.{never}
 use Rattle.lock.proofs.Labelled as labelled
 use Rattle.lock.proofs.Labelled.{Kind, Free, Waits, upd_same, upd_other}
 use Rattle.queue.specs.Line.{empty}
-use Rattle.queue.proofs.Written.{each, mapped_set}
+use Rattle.queue.proofs.Written.{rewritten, mapped_set}
 use Rattle.queue.proofs.Ordering.{same_rank, nobody}
 use Rattle.rows.proofs.Lending.{read_with}
 use Rattle.clh.specs.declared.words.Label.{Label}
@@ -71,7 +71,7 @@ module _ (s : Words) (w : ℕ) (ok : ∥ Holds s ∥₁) where
 
   -- where the own node stays
   own_stays : upd (own s) w (own s w) ≡ own s
-  own_stays = λ i v. each (λ u n. n ≡ own s u) (own s) w (own s w) refl (λ u ne. refl) v i
+  own_stays = rewritten (own s) w
 
   module _ (x : Words) (n : ℕ) (l : Label) (to : x.workers ≡ set s.workers w (record { own = n; label = l })) (lt : w < 16) where
     read : {A : Type 0} (g : Worker → A) → (λ v. g (worker x v)) ≡ upd (λ v. g (worker s v)) w (g (record { own = n; label = l }))

@@ -11,6 +11,10 @@ each P f w x here there v = ⊎_elim
     (λ ne. subst (P v) (sym (upd_other f w v x ne)) (there v ne))
     (cases_eq v w)
 
+-- written with what it has there, it stays
+pub rewritten : {A : Type 0} (f : ℕ → A) (w : ℕ) → upd f w (f w) ≡ f
+rewritten f w = λ i v. each (λ u x. x ≡ f u) f w (f w) refl (λ u ne. refl) v i
+
 -- the values of another function at it
 pub mapped : {A B : Type 0} (g : A → B) (f : ℕ → A) (w : ℕ) (x : A) → (λ v. g (upd f w x v)) ≡ upd (λ v. g (f v)) w (g x)
 mapped {A} {B} g f w x = λ i v. go v (eqb v w) i
