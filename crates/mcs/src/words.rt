@@ -63,7 +63,7 @@ pub struct Node {
     pub locked: bool,
 }
 
-// The shared words, and each worker's node and label.
+// The shared words, each worker's node among them, and beside them the labels, which are private.
 #[derive(Drop)]
 pub struct Words {
     pub last: Option<u8>,
