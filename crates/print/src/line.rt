@@ -1,9 +1,8 @@
-ghost use Rattle.std.specs.Prelude.{decimal};
 ghost use Rattle.text.specs.Lines.{line_text};
 ghost use Rattle.print.specs.Printed.{Printed};
 
 use crate::Sink;
-use itoa::Buffer;
+use itoa::{Buffer, Integer};
 use list::Memory;
 
 // Prints a line.
@@ -18,8 +17,8 @@ pub fn put_line<S: Sink>(sink: &mut S, key: &[u8], value: &[u8]) -> Result<(), M
 }
 
 // Prints a line whose value is a number.
-pub fn put_number_line<S: Sink>(sink: &mut S, key: &[u8], n: u64) -> Result<(), Memory>
-    ensures { Printed (S.Sink.page sink.old) (line_text key.now (decimal n)) result (S.Sink.page sink.new) }
+pub fn put_number_line<S: Sink, N: Integer>(sink: &mut S, key: &[u8], n: N) -> Result<(), Memory>
+    ensures { Printed (S.Sink.page sink.old) (line_text key.now (N.text n)) result (S.Sink.page sink.new) }
 {
     put_line(sink, key, Buffer::new().format(n).as_bytes())
 }

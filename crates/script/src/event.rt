@@ -6,7 +6,7 @@ ghost use Rattle.script.specs.Verdicts.{Passed, Stopped};
 
 use crate::Kind;
 use book::{Call, Event};
-use text::{Fault, Reader, same_bytes};
+use text::{Fault, Reader};
 
 // The call of this name that has no line of its own after it.
 fn bare_call(name: &[u8]) -> Option<Call>
@@ -34,13 +34,10 @@ fn read_call(reader: &mut Reader) -> Result<Call, Fault>
 {
     let line = reader.line();
     let name = reader.value(b"call")?;
-    if same_bytes(name, b"look") {
+    if name == b"look".as_slice() {
         return read_look(reader);
     }
-    let Some(call) = bare_call(name) else {
-        return Err(Fault::Value { line });
-    };
-    Ok(call)
+    bare_call(name).ok_or(Fault::Value { line })
 }
 
 // The worker of the next event, of which there may be `room` more.

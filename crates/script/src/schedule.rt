@@ -7,7 +7,6 @@ ghost use Rattle.script.specs.Verdicts.{Judged, Passed, Stopped, Verdict};
 
 use crate::Kind;
 use crate::event::read_event;
-use crate::kind::kind_named;
 use book::Event;
 use list::List;
 use text::{Fault, MOST_BYTES, Reader};
@@ -20,10 +19,7 @@ fn read_kind(reader: &mut Reader) -> Result<Kind, Fault>
 {
     let line = reader.line();
     let name = reader.value(b"lock")?;
-    let Some(kind) = kind_named(name) else {
-        return Err(Fault::Value { line });
-    };
-    Ok(kind)
+    Kind::named(name).ok_or(Fault::Value { line })
 }
 
 // What the text gives, with at most so many events. Nothing is written yet.

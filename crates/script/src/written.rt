@@ -5,7 +5,6 @@ ghost use Rattle.print.specs.Printed.{Printed};
 ghost use Rattle.script.specs.Written.{call_text, event_text, look_text, schedule_text};
 
 use crate::Kind;
-use crate::kind::kind_name;
 use book::{Call, Event};
 use list::Memory;
 use print::{Printable, Sink, put_line, put_number_line, write};
@@ -21,8 +20,8 @@ fn put_look<S: Sink>(sink: &mut S, chest: u32, grams: u32) -> Result<(), Memory>
     ensures { Printed (S.Sink.page sink.old) (look_text chest grams) result (S.Sink.page sink.new) }
 {
     put_line(sink, b"call", b"look")?;
-    put_number_line(sink, b"chest", u64::from(chest))?;
-    put_number_line(sink, b"grams", u64::from(grams))
+    put_number_line(sink, b"chest", chest)?;
+    put_number_line(sink, b"grams", grams)
 }
 
 fn put_call<S: Sink>(sink: &mut S, call: Call) -> Result<(), Memory>
@@ -40,7 +39,7 @@ fn put_call<S: Sink>(sink: &mut S, call: Call) -> Result<(), Memory>
 fn put_event<S: Sink>(sink: &mut S, event: Event) -> Result<(), Memory>
     ensures { Printed (S.Sink.page sink.old) (event_text event) result (S.Sink.page sink.new) }
 {
-    put_number_line(sink, b"worker", u64::from(event.worker))?;
+    put_number_line(sink, b"worker", event.worker)?;
     put_call(sink, event.call)
 }
 
@@ -56,7 +55,7 @@ fn put_events<S: Sink>(sink: &mut S, events: &[Event]) -> Result<(), Memory>
 fn put_schedule<S: Sink>(sink: &mut S, kind: Kind, events: &[Event]) -> Result<(), Memory>
     ensures { Printed (S.Sink.page sink.old) (schedule_text kind events.now) result (S.Sink.page sink.new) }
 {
-    put_line(sink, b"lock", kind_name(kind))?;
+    put_line(sink, b"lock", kind.name())?;
     put_events(sink, events)
 }
 
