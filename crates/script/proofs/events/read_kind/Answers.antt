@@ -4,7 +4,7 @@ use Rattle.script.specs.Stages.{at_lock, at_worker}
 use Rattle.script.specs.Names.{kind_name}
 use Rattle.script.specs.declared.kind.Kind.{Kind}
 use Rattle.script.proofs.Steps.{no_line, chosen}
-use Rattle.script.proofs.schedule.read_kind.Goals as goal
+use Rattle.script.proofs.events.read_kind.Goals as goal
 
 pub returns-in_err-name : goal.returns-in_err-name
 returns-in_err-name c most =
