@@ -2,7 +2,7 @@
 use Rattle.std.specs.Prelude.{◌≡◌, ℕ, ◌+◌, ◌<◌, List, [], ◌∷◌, length, Ok, Err, Result}
 use Rattle.book.specs.declared.call.Event.{Event}
 use Rattle.text.specs.Ahead.{ahead, line_number}
-use Rattle.text.specs.Lines.{Line, whole, cut}
+use Rattle.text.specs.Lines.{Line, whole, cut, lines}
 use Rattle.text.specs.Wrong.{Amiss}
 use Rattle.text.specs.declared.fault.Fault.{Fault}
 use Rattle.text.specs.declared.fault.Fault.TheVariants.{TooMany, Ended}
@@ -32,6 +32,10 @@ abbrev pub Judged : ℕ → Stage → ℕ → List Line → Verdict → Type 0
 Judged most s n [] v = AtEnd s n v
 Judged most s n (cut ∷ ls) v = v ≡ Err (Ended n)
 Judged most s n (whole key value ∷ ls) v = AtLine most s n key value (λ t. Judged most t (n + 1) ls v) v
+
+-- what a text gives, where there may be so many events
+abbrev pub Yields : ℕ → List ℕ → Verdict → Type 0
+Yields most text v = Judged most at_lock 1 (lines text) v
 
 -- ## Readers
 

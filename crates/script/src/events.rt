@@ -1,8 +1,7 @@
 ghost use Rattle.std.specs.Prelude.{List as Bytes, ℕ, ◌<◌, [], ◌∷◌, ◌++◌, length, take, Ok, Err, MatchOption, MatchResult};
 ghost use Rattle.text.specs.Ahead.{ahead};
-ghost use Rattle.text.specs.Lines.{lines};
 ghost use Rattle.script.specs.Stages.{Events, at_lock, at_worker};
-ghost use Rattle.script.specs.Verdicts.{Judged, Passed, Stopped};
+ghost use Rattle.script.specs.Verdicts.{Passed, Stopped, Yields};
 ghost use Rattle.script.specs.Reads.{Reads};
 
 use crate::Kind;
@@ -28,7 +27,7 @@ fn read_kind(reader: &mut Reader) -> Result<Kind, Fault>
 impl<'a> EventReader<'a> {
     // The kind of lock that the text names, and its events, of which there may be `most`.
     pub fn open(text: &'a [u8], most: usize) -> Result<(Kind, EventReader<'a>), Fault>
-        ensures { MatchResult result (λ p. Reads most (take 32768 text.now) p.0 [] p.1) (λ f. Judged most at_lock 1 (lines (take 32768 text.now)) (Err f)) }
+        ensures { MatchResult result (λ p. Reads most (take 32768 text.now) p.0 [] p.1) (λ f. Yields most (take 32768 text.now) (Err f)) }
     {
         let mut reader = Reader::new(text);
         let kind = read_kind(&mut reader)?;
@@ -37,7 +36,7 @@ impl<'a> EventReader<'a> {
 
     // The next event, if there is one.
     pub fn next(&mut self) -> Result<Option<Event>, Fault>
-        ensures { (most : ℕ) (text : Bytes ℕ) (k : Kind) (es : Events) → Reads most text k es self.old → MatchResult result (λ o. MatchOption o (Judged most at_lock 1 (lines text) (Ok (k, es))) (λ e. Reads most text k (es ++ e ∷ []) self.new × (length (ahead self.new.reader) < length (ahead self.old.reader)))) (λ f. Judged most at_lock 1 (lines text) (Err f)) }
+        ensures { (most : ℕ) (text : Bytes ℕ) (k : Kind) (es : Events) → Reads most text k es self.old → MatchResult result (λ o. MatchOption o (Yields most text (Ok (k, es))) (λ e. Reads most text k (es ++ e ∷ []) self.new × (length (ahead self.new.reader) < length (ahead self.old.reader)))) (λ f. Yields most text (Err f)) }
     {
         if self.reader.is_done() {
             return Ok(None);

@@ -1,9 +1,8 @@
 ghost use Rattle.std.specs.Prelude.{◌≡◌, ◌≤◌, take, drop, IfOk, Ok, Err, MatchResult, OnErr, OnOk};
 ghost use Rattle.list.specs.Held.{list_items, list_len, list_memory, list_room, lender};
-ghost use Rattle.text.specs.Lines.{lines};
 ghost use Rattle.script.specs.Schedule.{Gives, IsSchedule, told};
-ghost use Rattle.script.specs.Stages.{Events, at_lock};
-ghost use Rattle.script.specs.Verdicts.{Judged, Verdict};
+ghost use Rattle.script.specs.Stages.{Events};
+ghost use Rattle.script.specs.Verdicts.{Verdict, Yields};
 
 use crate::Kind;
 use crate::events::EventReader;
@@ -16,7 +15,7 @@ const MOST_EVENTS: usize = 1_024;
 
 // What the text gives, with at most so many events. Nothing is written yet.
 fn survey(text: &[u8], most: usize) -> Result<Kind, Fault>
-    ensures { MatchResult result (λ k. ((es : Events) × Judged most at_lock 1 (lines (take 32768 text.now)) (Ok (k, es)))) (λ f. Judged most at_lock 1 (lines (take 32768 text.now)) (Err f)) }
+    ensures { MatchResult result (λ k. ((es : Events) × Yields most (take 32768 text.now) (Ok (k, es)))) (λ f. Yields most (take 32768 text.now) (Err f)) }
 {
     let (kind, mut read) = EventReader::open(text, most)?;
     while let Some(_) = read.next()? {}
@@ -26,7 +25,7 @@ fn survey(text: &[u8], most: usize) -> Result<Kind, Fault>
 // The events of the text in the list, which is emptied first.
 fn fill(text: &[u8], most: usize, events: &mut List<Event>) -> Result<Kind, Fault>
     requires { most ≤ list_room events.old }
-    ensures value { Judged most at_lock 1 (lines (take 32768 text.now)) (told result (list_items events.new)) }
+    ensures value { Yields most (take 32768 text.now) (told result (list_items events.new)) }
     ensures memory { drop (list_len events.new) (list_memory events.new) ≡ drop (list_len events.new) (list_memory events.old) }
     ensures same { lender events.new ≡ lender events.old }
 {

@@ -2,7 +2,7 @@ ghost use Rattle.std.specs.Prelude.{◌≡◌, length};
 ghost use Rattle.std.specs.List.{flat_map};
 ghost use Rattle.print.specs.Overwrite.{write_answer, write_memory};
 ghost use Rattle.print.specs.Printed.{Printed};
-ghost use Rattle.script.specs.Written.{call_text, event_text, look_text, schedule_text};
+ghost use Rattle.script.specs.Written.{call_text, event_text, look_text, schedule_text, written};
 
 use crate::Kind;
 use book::{Call, Event};
@@ -60,7 +60,7 @@ fn put_schedule<S: Sink>(sink: &mut S, kind: Kind, events: &[Event]) -> Result<(
 }
 
 impl Printable for Schedule<'_> {
-    ghost shown = { λ s. schedule_text s.kind s.events.now };
+    ghost shown = { written };
 
     fn print<S: Sink>(&self, sink: &mut S) -> Result<(), Memory> {
         put_schedule(sink, self.kind, self.events)
@@ -69,8 +69,8 @@ impl Printable for Schedule<'_> {
 
 // Writes a schedule at the front of the memory, and answers its length.
 pub fn write_schedule(schedule: &Schedule, memory: &mut [u8]) -> Result<usize, Memory>
-    ensures value { result ≡ write_answer (schedule_text schedule.now.kind schedule.now.events.now) memory.old }
-    ensures memory { memory.new ≡ write_memory (schedule_text schedule.now.kind schedule.now.events.now) memory.old }
+    ensures value { result ≡ write_answer (written schedule.now) memory.old }
+    ensures memory { memory.new ≡ write_memory (written schedule.now) memory.old }
 {
     write(schedule, memory)
 }

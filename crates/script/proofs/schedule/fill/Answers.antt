@@ -16,12 +16,12 @@ loop-event-preserved c =
     let inv = c.loop-event.invariant in
     let l = c.loop-event.events in
     let step = rw c.in-Some.is at (c.in_ok-event.ensures c.args.most (take 32768 c.args.text.now) c.in_ok-kind.kind (list_items l) inv.reads) in
-    let fits : list_len l < list_room l = omega (arith, step.0.counted, length_push (list_items l) c.in-Some.event, inv.len, inv.room, c.requires, ap length c.clear.ensures.memory) in
+    let fits : list_len l < list_room l = omega (arith, step.0.counted, length_push (list_items l) c.in-Some.event, inv.len, inv.room) in
     let written = c.push.ensures.memory fits in
     let items = c.push.ensures.items fits in
     record {
       len = omega (arith, ap length items, length_push (list_items l) c.in-Some.event, inv.len, c.push.ensures.len fits);
-      room = ap length written ∙ length-set (list_memory l) (list_len l) c.in-Some.event ∙ inv.room;
+      room = omega (arith, ap length written, length-set (list_memory l) (list_len l) c.in-Some.event, inv.room);
       same = c.push.ensures.same ∙ inv.same;
       past = past_push (list_len l) _ _ (list_memory l) _ c.in-Some.event (c.push.ensures.len fits) written inv.past;
       reads = subst (λ es. Reads c.args.most (take 32768 c.args.text.now) c.in_ok-kind.kind es c.next.new.self) (sym items) step.0;

@@ -1,4 +1,4 @@
-use Rattle.std.proofs.Common.{◌≡◌, length, take, drop}
+use Rattle.std.proofs.Common.{◌≡◌, ◌≤◌, length, take, drop}
 use Rattle.list.specs.Held.{list_items, list_len, list_memory, list_room, lender}
 use Rattle.text.specs.Ahead.{ahead}
 use Rattle.script.specs.Reads.{Reads}
@@ -7,7 +7,7 @@ use Rattle.script.proofs.schedule.fill.Given as goal
 abbrev pub invariant-loop-event : goal.invariant-loop-event
 invariant-loop-event l = record {
   len : length (list_items l.events) ≡ list_len l.events;
-  room : list_room l.events ≡ list_room l.initial.events;
+  room : l.most ≤ list_room l.events;
   same : lender l.events ≡ lender l.initial.events;
   past : drop (list_len l.events) (list_memory l.events) ≡ drop (list_len l.events) (list_memory l.initial.events);
   reads : Reads l.most (take 32768 l.text) l.kind (list_items l.events) l.read;
