@@ -8,7 +8,8 @@ use crate::Kind;
 use book::{Call, Event};
 use text::{Fault, Reader};
 
-// The call of this name that has no line of its own after it.
+// The call of this name that has no line of its own after it. `Call` is another crate's, so this is
+// no method of it.
 fn bare_call(name: &[u8]) -> Option<Call>
     ensures { MatchOption result ((c : Call) → Bare c → name.now ≢ call_name c) (λ c. Bare c × (name.now ≡ call_name c)) }
 {

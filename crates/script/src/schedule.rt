@@ -18,7 +18,7 @@ fn survey(text: &[u8], most: usize) -> Result<Kind, Fault>
     ensures { MatchResult result (λ k. ((es : Events) × Yields most (take 32768 text.now) (Ok (k, es)))) (λ f. Yields most (take 32768 text.now) (Err f)) }
 {
     let (kind, mut read) = EventReader::open(text, most)?;
-    while let Some(_) = read.next()? {}
+    while let Some(_) = read.next_event()? {}
     Ok(kind)
 }
 
@@ -31,7 +31,7 @@ fn fill(text: &[u8], most: usize, events: &mut List<Event>) -> Result<Kind, Faul
 {
     let (kind, mut read) = EventReader::open(text, most)?;
     events.clear();
-    while let Some(event) = read.next()? {
+    while let Some(event) = read.next_event()? {
         let _ = events.push(event);
     }
     Ok(kind)

@@ -24,7 +24,7 @@ loop-event-preserved c =
       room = omega (arith, ap length written, length-set (list_memory l) (list_len l) c.in-Some.event, inv.room);
       same = c.push.ensures.same ∙ inv.same;
       past = past_push (list_len l) _ _ (list_memory l) _ c.in-Some.event (c.push.ensures.len fits) written inv.past;
-      reads = subst (λ es. Reads c.args.most (take 32768 c.args.text.now) c.in_ok-kind.kind es c.next.new.self) (sym items) step.0;
+      reads = subst (λ es. Reads c.args.most (take 32768 c.args.text.now) c.in_ok-kind.kind es c.next_event.new.self) (sym items) step.0;
     }
 
 pub returns-clause-value : goal.returns-clause-value

@@ -1,7 +1,7 @@
 use Rattle.std.proofs.Common.{[], arith}
 use Rattle.std.proofs.lemmas.List.{length_push}
 use Rattle.script.specs.declared.kind.Kind.TheVariants.{Tas}
-use Rattle.script.proofs.events.EventReader.next.Goals as goal
+use Rattle.script.proofs.events.EventReader.next_event.Goals as goal
 
 pub overflow_sub-self : goal.overflow_sub-self
 overflow_sub-self c = omega (arith, (c.in_ok-event.ensures c.args.self.now.room Tas [] (omega arith) c.if-is_done.ensures).0)
