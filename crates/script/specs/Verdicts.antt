@@ -1,5 +1,5 @@
 -- What a text gives, line by line from the top: a kind and its events, or a fault.
-use Rattle.std.specs.Prelude.{◌≡◌, ℕ, ◌+◌, ◌<◌, List, [], ◌∷◌, length, Ok, Err, Result}
+use Rattle.std.specs.Prelude.{◌≡◌, ℕ, ◌+◌, ◌<◌, List, [], ◌∷◌, length, Ok, Err, MatchResult, Result}
 use Rattle.book.specs.declared.call.Event.{Event}
 use Rattle.text.specs.Ahead.{ahead, line_number}
 use Rattle.text.specs.Lines.{Line, whole, cut, lines}
@@ -46,3 +46,7 @@ pub record Passed (most : ℕ) (s : Stage) (r : Reader) (t : Stage) (q : Reader)
 
 abbrev pub Stopped : ℕ → Stage → Reader → Fault → Type 0
 Stopped most s r f = Judged most s (line_number r) (ahead r) (Err f)
+
+-- reading goes on from s to the stage of what was read, or stops
+abbrev pub Reaches : {X : Type 0} → ℕ → Stage → (X → Stage) → Result X Fault → Reader → Reader → Type 0
+Reaches most s to result r q = MatchResult result (λ x. Passed most s r (to x) q) (λ f. Stopped most s r f)

@@ -1,8 +1,8 @@
-ghost use Rattle.std.specs.Prelude.{◌≡◌, ℕ, ◌+◌, ◌<◌, [], ◌∷◌, ◌++◌, length, MatchOption, MatchResult, ◌≢◌};
+ghost use Rattle.std.specs.Prelude.{◌≡◌, ℕ, ◌+◌, ◌<◌, [], ◌∷◌, ◌++◌, length, MatchOption, OnOk, ◌≢◌};
 ghost use Rattle.text.specs.Ahead.{ahead};
 ghost use Rattle.script.specs.Names.{call_name, Bare};
 ghost use Rattle.script.specs.Stages.{Events, at_worker, at_call, at_chest, with_call};
-ghost use Rattle.script.specs.Verdicts.{Passed, Stopped};
+ghost use Rattle.script.specs.Verdicts.{Reaches};
 
 use crate::Kind;
 use book::{Call, Event};
@@ -23,7 +23,7 @@ fn bare_call(name: &[u8]) -> Option<Call>
 }
 
 fn read_look(reader: &mut Reader) -> Result<Call, Fault>
-    ensures { (most : ℕ) (k : Kind) (es : Events) (w : ℕ) → MatchResult result (λ c. Passed most (at_chest k es w) reader.old (at_worker k (with_call es w c)) reader.new) (λ f. Stopped most (at_chest k es w) reader.old f) }
+    ensures { (most : ℕ) (k : Kind) (es : Events) (w : ℕ) → Reaches most (at_chest k es w) (λ c. at_worker k (with_call es w c)) result reader.old reader.new }
 {
     let chest = reader.number(b"chest", u32::MAX)?;
     let grams = reader.number(b"grams", u32::MAX)?;
@@ -31,7 +31,7 @@ fn read_look(reader: &mut Reader) -> Result<Call, Fault>
 }
 
 fn read_call(reader: &mut Reader) -> Result<Call, Fault>
-    ensures { (most : ℕ) (k : Kind) (es : Events) (w : ℕ) → MatchResult result (λ c. Passed most (at_call k es w) reader.old (at_worker k (with_call es w c)) reader.new) (λ f. Stopped most (at_call k es w) reader.old f) }
+    ensures { (most : ℕ) (k : Kind) (es : Events) (w : ℕ) → Reaches most (at_call k es w) (λ c. at_worker k (with_call es w c)) result reader.old reader.new }
 {
     let line = reader.line();
     let name = reader.value(b"call")?;
@@ -43,7 +43,8 @@ fn read_call(reader: &mut Reader) -> Result<Call, Fault>
 
 // The worker of the next event, of which there may be `room` more.
 fn read_worker(reader: &mut Reader, room: usize) -> Result<u8, Fault>
-    ensures { (most : ℕ) (k : Kind) (es : Events) → length es + room ≡ most → (ahead reader.old ≢ []) → MatchResult result (λ w. (0 < room) × Passed most (at_worker k es) reader.old (at_call k es w) reader.new) (λ f. Stopped most (at_worker k es) reader.old f) }
+    ensures room { OnOk result (0 < room) }
+    ensures value { (most : ℕ) (k : Kind) (es : Events) → length es + room ≡ most → (ahead reader.old ≢ []) → Reaches most (at_worker k es) (λ w. at_call k es w) result reader.old reader.new }
 {
     let line = reader.line();
     let worker = reader.number(b"worker", 255)?;
@@ -55,7 +56,8 @@ fn read_worker(reader: &mut Reader, room: usize) -> Result<u8, Fault>
 
 // The next event, of which there may be `room` more.
 pub fn read_event(reader: &mut Reader, room: usize) -> Result<Event, Fault>
-    ensures { (most : ℕ) (k : Kind) (es : Events) → length es + room ≡ most → (ahead reader.old ≢ []) → MatchResult result (λ e. (0 < room) × Passed most (at_worker k es) reader.old (at_worker k (es ++ e ∷ [])) reader.new) (λ f. Stopped most (at_worker k es) reader.old f) }
+    ensures room { OnOk result (0 < room) }
+    ensures value { (most : ℕ) (k : Kind) (es : Events) → length es + room ≡ most → (ahead reader.old ≢ []) → Reaches most (at_worker k es) (λ e. at_worker k (es ++ e ∷ [])) result reader.old reader.new }
 {
     let worker = read_worker(reader, room)?;
     let call = read_call(reader)?;

@@ -1,7 +1,7 @@
 ghost use Rattle.std.specs.Prelude.{List as Bytes, ℕ, ◌<◌, [], ◌∷◌, ◌++◌, length, take, Ok, Err, MatchOption, MatchResult};
 ghost use Rattle.text.specs.Ahead.{ahead};
 ghost use Rattle.script.specs.Stages.{Events, at_lock, at_worker};
-ghost use Rattle.script.specs.Verdicts.{Passed, Stopped, Yields};
+ghost use Rattle.script.specs.Verdicts.{Reaches, Yields};
 ghost use Rattle.script.specs.Reads.{Reads};
 
 use crate::Kind;
@@ -17,7 +17,7 @@ pub struct EventReader<'a> {
 }
 
 fn read_kind(reader: &mut Reader) -> Result<Kind, Fault>
-    ensures { (most : ℕ) → MatchResult result (λ k. Passed most at_lock reader.old (at_worker k []) reader.new) (λ f. Stopped most at_lock reader.old f) }
+    ensures { (most : ℕ) → Reaches most at_lock (λ k. at_worker k []) result reader.old reader.new }
 {
     let line = reader.line();
     let name = reader.value(b"lock")?;
