@@ -11,7 +11,7 @@ use Rattle.script.specs.Stages.{at_lock, Events}
 use Rattle.script.specs.Verdicts.{Verdict, Judged}
 use Rattle.script.specs.Schedule.{Gives, IsSchedule, told}
 use Rattle.script.proofs.Once.{once}
-use Rattle.script.proofs.Forms.{clash, same_pair, text_form, within, written_read}
+use Rattle.script.proofs.Forms.{same_pair, text_form, within, written_read}
 
 -- a reader at the start
 pub opened : (most : ℕ) (text : List ℕ) (r : Reader) (v : Verdict) → Opened text r → Judged most at_lock (line_number r) (ahead r) v → Judged most at_lock 1 (lines text) v
@@ -49,7 +49,7 @@ pub told_ok : (r : Result Kind Fault) (items : Events) (k : Kind) (es : Events) 
 told_ok (Ok j) items k es e =
     let pair = same_pair j items k es e in
     (ap (λ x. Ok x.0) pair, ap (λ x. x.1) pair)
-told_ok (Err f) items k es e = clash k es f (sym e)
+told_ok (Err f) items k es e = cc e
 
 pub form : (room : ℕ) (text : List ℕ) (r : Result Kind Fault) (items : Events) → length text ≤ 32768 → Gives room text (told r items) → IfOk r (λ k. IsSchedule room text k items)
 form room text (Ok k) items h g = given_schedule room text k items h g
