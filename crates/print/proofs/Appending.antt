@@ -1,15 +1,11 @@
 -- Bytes printed one after another.
-use Rattle.std.proofs.Common.{◌≡◌, ℕ, ◌+◌, ◌-◌, ◌<◌, ◌≤◌, List, [], ◌∷◌, ◌++◌, length, drop, set, Some, None, Ok, Err, Option, Result, sym, refl, ap, ◌∙◌, subst, append_assoc, append-nil, add-zero, arith}
-use Rattle.std.proofs.lemmas.List.{length-append, length-set, drop-drop}
-use Rattle.list.specs.Held.{list_len, list_memory, list_items, lender}
+use Rattle.std.proofs.Common.{◌≡◌, ℕ, ◌+◌, ◌-◌, ◌≤◌, List, [], ◌∷◌, ◌++◌, drop, Some, None, Ok, Err, Option, Result, sym, ap, ◌∙◌, subst, append_assoc, arith}
+use Rattle.std.proofs.lemmas.List.{length-append, drop-drop}
+use Rattle.list.specs.Held.{list_len, list_memory, list_items}
 use Rattle.list.specs.declared.List.{List as Listing}
 use Rattle.list.specs.declared.memory.Memory.{Memory}
-use Rattle.list.proofs.Past.{past_push}
 use Rattle.text.specs.Lines.{line_text}
 use Rattle.print.specs.Printed.{Page, Appended, Kept, Prints, Printed}
-
-pub appended_none : (a : Listing ℕ) → Appended a [] a
-appended_none a = record { longer = sym (add-zero (list_len a)); items = sym (append-nil (list_items a)); past = refl; room = refl; same = refl }
 
 later : {X : Type 0} (b a : List X) (m k : ℕ) → m ≤ k → drop m b ≡ drop m a → drop k b ≡ drop k a
 later b a m k h e =
@@ -25,19 +21,6 @@ appended_more a b c xs ys p q = record {
   same = q.same ∙ p.same;
 }
 
-pub appended_push : (a b : Listing ℕ) (x : ℕ) → list_len b ≡ list_len a + 1 → list_items b ≡ list_items a ++ x ∷ [] → list_memory b ≡ set (list_memory a) (list_len a) x → lender b ≡ lender a → Appended a (x ∷ []) b
-appended_push a b x len items memory same = record {
-  longer = len;
-  items = items;
-  past = past_push (list_len a) (list_len b) (list_memory a) (list_memory a) (list_memory b) x len memory refl;
-  room = ap length memory ∙ length-set (list_memory a) (list_len a) x;
-  same = same;
-}
-
-kept_none : (a : Option (Listing ℕ)) → Kept a [] a
-kept_none None = tt
-kept_none (Some a) = appended_none a
-
 kept_more : (a b c : Option (Listing ℕ)) (xs ys : List ℕ) → Kept a xs b → Kept b ys c → Kept a (xs ++ ys) c
 kept_more None None None xs ys p q = tt
 kept_more None None (Some c) xs ys p q = absurd q
@@ -45,9 +28,6 @@ kept_more None (Some b) c xs ys p q = absurd p
 kept_more (Some a) None c xs ys p q = absurd p
 kept_more (Some a) (Some b) None xs ys p q = absurd q
 kept_more (Some a) (Some b) (Some c) xs ys p q = appended_more a b c xs ys p q
-
-pub prints_none : (a : Page) → Prints a [] a
-prints_none a = record { spent = omega arith; kept = kept_none a.list }
 
 pub prints_more : (a b c : Page) (xs ys : List ℕ) → Prints a xs b → Prints b ys c → Prints a (xs ++ ys) c
 prints_more a b c xs ys p q = record {
@@ -61,18 +41,10 @@ pub then : (a b c : Page) (xs ys : List ℕ) (r : Result (Unit {0}) Memory) → 
 then a b c xs ys (Ok u) p q = prints_more a b c xs ys p q
 then a b c xs ys (Err m) p q = omega (arith, p.spent, length-append xs ys)
 
--- a `?` hands on a refusal
-pub short : (a b : Page) (xs : List ℕ) (r : Result (Unit {0}) Memory) (m : Memory) → r ≡ Err m → a.space < length xs → Printed a xs r b
-short a b xs (Ok u) m e h = let z : ◌≡◌ {A = ℕ} 0 1 = cc e in absurd (omega arith)
-short a b xs (Err n) m e h = h
-
 pub printed_same : (a b : Page) (xs ys : List ℕ) (r : Result (Unit {0}) Memory) → xs ≡ ys → Printed a xs r b → Printed a ys r b
 printed_same a b xs ys r e p = subst (λ l. Printed a l r b) e p
 
 -- ## A line
-
-pub length_line : (key value : List ℕ) → length (line_text key value) ≡ length key + 1 + length value + 1
-length_line key value = simp length-append (omega arith)
 
 pub line : (a b c d e : Page) (key value : List ℕ) (r : Result (Unit {0}) Memory) → Prints a key b → Prints b (61 ∷ []) c → Prints c value d → Printed d (10 ∷ []) r e → Printed a (line_text key value) r e
 line a b c d e key value r p q s t = then a b e key (61 ∷ (value ++ (10 ∷ []))) r p (then b c e (61 ∷ []) (value ++ (10 ∷ [])) r q (then c d e value (10 ∷ []) r s t))

@@ -7,6 +7,8 @@ ghost use Rattle.print.specs.Overwrite.{write_answer, write_memory};
 use crate::Sink;
 use list::{List, Memory};
 
+// A text that is printed. `fmt::Display` and `fmt::Write` would do, but promise nothing of a refusal:
+// here it comes exactly where the text does not fit.
 pub trait Printable {
     // The bytes that are printed.
     ghost shown: { Self → Bytes ℕ };
@@ -25,10 +27,8 @@ impl Sink for Budget {
     ghost page = { λ b. record { space = b.left; list = None } };
 
     fn put(&mut self, bytes: &[u8]) -> Result<(), Memory> {
-        if self.left < bytes.len() {
-            return Err(Memory::TooShort);
-        }
-        self.left -= bytes.len();
+        let left = self.left.checked_sub(bytes.len());
+        self.left = left.ok_or(Memory::TooShort)?;
         Ok(())
     }
 }

@@ -1,5 +1,5 @@
 -- The texts that are accepted are the written ones.
-use Rattle.std.proofs.Common.{◌≡◌, ℕ, ◌+◌, ◌<◌, ◌≤◌, true, false, eqb, List, [], ◌∷◌, ◌++◌, length, Ok, Err, codes, decimal, sym, refl, ap, ◌∙◌, subst, ⊎_elim, append_assoc, append-nil, arith}
+use Rattle.std.proofs.Common.{◌≡◌, ℕ, ◌+◌, ◌<◌, ◌≤◌, true, false, eqb, List, [], ◌∷◌, ◌++◌, length, Ok, codes, decimal, sym, refl, ap, ◌∙◌, subst, ⊎_elim, append_assoc, append-nil, arith}
 use Rattle.std.specs.List.{flat_map}
 use Rattle.std.specs.Str.Parse.{AllDigits}
 use Rattle.std.proofs.lemmas.Fmt.{decimal_nonempty, decimal_is_IsNumeral}
@@ -11,7 +11,6 @@ use Rattle.book.specs.declared.call.Call.TheVariants.{Lock, Unlock, Step, Look, 
 use Rattle.book.specs.declared.call.Event.{Event}
 use Rattle.text.specs.Cuts.{has}
 use Rattle.text.specs.Lines.{Line, whole, cut, lines, line_text}
-use Rattle.text.specs.declared.fault.Fault.{Fault}
 use Rattle.text.proofs.Forms.{text_of, Valued, text_back, lines_front}
 use Rattle.text.proofs.First.{lines_end}
 use Rattle.script.specs.declared.kind.Kind.{Kind}
@@ -21,10 +20,6 @@ use Rattle.script.specs.Stages.{Stage, at_lock, at_worker, at_call, at_chest, at
 use Rattle.script.specs.Verdicts.{Verdict, AtEnd, AtLine, wrong, too_many, goes_on, Judged}
 use Rattle.script.specs.Schedule.{CallFits, EventsFit}
 use Rattle.script.proofs.KindNames.{kind_some, kind_line}
-
--- two verdicts differ
-pub clash : {P : Type 0} (k : Kind) (es : Events) (f : Fault) → ◌≡◌ {A = Verdict} (Ok (k, es)) (Err f) → P
-clash k es f e = let z : ◌≡◌ {A = ℕ} 0 1 = cc e in absurd (omega arith)
 
 pub same_pair : (k : Kind) (es : Events) (j : Kind) (fs : Events) → ◌≡◌ {A = Verdict} (Ok (k, es)) (Ok (j, fs)) → ◌≡◌ {A = Kind × Events} (k, es) (j, fs)
 same_pair k es j fs e = cc e
@@ -78,22 +73,22 @@ leads_some (at_chest k es w) v t (c, h, a, e) = omega (arith, ap length a, decim
 leads_some (at_grams k es w c) v t (g, h, a, e) = omega (arith, ap length a, decimal_nonempty g (omega arith))
 
 end_form : (s : Stage) (n : ℕ) (k : Kind) (es : Events) → AtEnd s n (Ok (k, es)) → sofar s ≡ schedule_text k es
-end_form at_lock n k es e = clash k es _ e
+end_form at_lock n k es e = cc e
 end_form (at_worker j fs) n k es e = ap (λ x. schedule_text x.0 x.1) (sym (same_pair k es j fs e))
-end_form (at_call j fs w) n k es e = clash k es _ e
-end_form (at_chest j fs w) n k es e = clash k es _ e
-end_form (at_grams j fs w c) n k es e = clash k es _ e
+end_form (at_call j fs w) n k es e = cc e
+end_form (at_chest j fs w) n k es e = cc e
+end_form (at_grams j fs w c) n k es e = cc e
 
 line_form : (most : ℕ) (s : Stage) (n : ℕ) (key value : List ℕ) (ls : List Line) (k : Kind) (es : Events) (On : Stage → Type 0) → ((t : Stage) → On t → Valued ls × (sofar t ++ flat_map text_of ls ≡ schedule_text k es)) → AtLine most s n key value On (Ok (k, es)) → ((0 < length value) × Valued ls) × (sofar s ++ (line_text key value ++ flat_map text_of ls) ≡ schedule_text k es)
-line_form most s n key value ls k es On go (wrong f a e) = clash k es f e
-line_form most s n key value ls k es On go (too_many a l r e) = clash k es _ e
+line_form most s n key value ls k es On go (wrong f a e) = cc e
+line_form most s n key value ls k es On go (too_many a l r e) = cc e
 line_form most s n key value ls k es On go (goes_on a t l r i) =
     let rest = go t i in
     ((leads_some s value t l, rest.0), sym (append_assoc (sofar s) (line_text key value) (flat_map text_of ls)) ∙ ap (λ x. x ++ flat_map text_of ls) (ap (λ y. sofar s ++ line_text y value) a ∙ leads_more s value t l) ∙ rest.1)
 
 accepted_form : (most : ℕ) (s : Stage) (n : ℕ) (ls : List Line) (k : Kind) (es : Events) → Judged most s n ls (Ok (k, es)) → Valued ls × (sofar s ++ flat_map text_of ls ≡ schedule_text k es)
 accepted_form most s n [] k es j = (tt, append-nil (sofar s) ∙ end_form s n k es j)
-accepted_form most s n (cut ∷ ls) k es j = clash k es _ j
+accepted_form most s n (cut ∷ ls) k es j = cc j
 accepted_form most s n (whole key value ∷ ls) k es j = line_form most s n key value ls k es (λ t. Judged most t (n + 1) ls (Ok (k, es))) (λ t. accepted_form most t (n + 1) ls k es) j
 
 pub text_form : (most : ℕ) (text : List ℕ) (k : Kind) (es : Events) → Judged most at_lock 1 (lines text) (Ok (k, es)) → text ≡ schedule_text k es
@@ -135,21 +130,21 @@ good_leads most (at_chest k es w) v t (n, f, l) (c, h, a, e) room = subst (Good 
 good_leads most (at_grams k es w c) v t (n, f, l, m) (x, h, a, e) room = subst (Good most) (sym e) (good_with most k es w (Look c x) n f l (m, h))
 
 good_end : (most : ℕ) (s : Stage) (n : ℕ) (k : Kind) (es : Events) → Good most s → AtEnd s n (Ok (k, es)) → Within most k es
-good_end most at_lock n k es g e = clash k es _ e
+good_end most at_lock n k es g e = cc e
 good_end most (at_worker j fs) n k es g e =
     subst (λ x. Within most x.0 x.1) (sym (same_pair k es j fs e)) g
-good_end most (at_call j fs w) n k es g e = clash k es _ e
-good_end most (at_chest j fs w) n k es g e = clash k es _ e
-good_end most (at_grams j fs w c) n k es g e = clash k es _ e
+good_end most (at_call j fs w) n k es g e = cc e
+good_end most (at_chest j fs w) n k es g e = cc e
+good_end most (at_grams j fs w c) n k es g e = cc e
 
 line_within : (most : ℕ) (s : Stage) (n : ℕ) (key value : List ℕ) (k : Kind) (es : Events) (On : Stage → Type 0) → Good most s → ((t : Stage) → Good most t → On t → Within most k es) → AtLine most s n key value On (Ok (k, es)) → Within most k es
-line_within most s n key value k es On g go (wrong f a e) = clash k es f e
-line_within most s n key value k es On g go (too_many a l r e) = clash k es _ e
+line_within most s n key value k es On g go (wrong f a e) = cc e
+line_within most s n key value k es On g go (too_many a l r e) = cc e
 line_within most s n key value k es On g go (goes_on a t l r i) = go t (good_leads most s value t g l r) i
 
 accepted_within : (most : ℕ) (s : Stage) (n : ℕ) (ls : List Line) (k : Kind) (es : Events) → Good most s → Judged most s n ls (Ok (k, es)) → Within most k es
 accepted_within most s n [] k es g j = good_end most s n k es g j
-accepted_within most s n (cut ∷ ls) k es g j = clash k es _ j
+accepted_within most s n (cut ∷ ls) k es g j = cc j
 accepted_within most s n (whole key value ∷ ls) k es g j = line_within most s n key value k es (λ t. Judged most t (n + 1) ls (Ok (k, es))) g (λ t h. accepted_within most t (n + 1) ls k es h) j
 
 pub within : (most : ℕ) (text : List ℕ) (k : Kind) (es : Events) → Judged most at_lock 1 (lines text) (Ok (k, es)) → Within most k es

@@ -1,5 +1,6 @@
 -- How a reader goes from line to line.
-use Rattle.std.proofs.Common.{◌≡◌, ℕ, ◌≤◌, List, [], ◌∷◌, length, Err, codes, decimal, sym, refl, ap, subst, arith}
+use Rattle.std.proofs.Common.{◌≡◌, ℕ, ◌≤◌, List, [], ◌∷◌, length, Some, None, Err, MatchOption, Option, Result, codes, decimal, sym, refl, ap, subst, arith}
+use Rattle.std.specs.Option.{ok_or}
 use Rattle.book.specs.declared.call.Event.{Event}
 use Rattle.text.specs.Ahead.{ahead, line_number, Taken}
 use Rattle.text.specs.Lines.{Line, whole, cut}
@@ -9,7 +10,7 @@ use Rattle.text.specs.declared.fault.Fault.TheVariants.{Value, TooMany, Ended}
 use Rattle.text.specs.declared.reader.Reader.{Reader}
 use Rattle.script.specs.declared.kind.Kind.{Kind}
 use Rattle.script.specs.Stages.{Stage, at_chest, at_grams, key_of, Leads, Allowed, Full}
-use Rattle.script.specs.Verdicts.{AtEnd, wrong, too_many, goes_on, Judged, Passed, Stopped}
+use Rattle.script.specs.Verdicts.{AtEnd, wrong, too_many, goes_on, Judged, Passed, Stopped, Reaches}
 
 -- a line as it should be
 pub passes : (most : ℕ) (s : Stage) (r : Reader) (t : Stage) (q : Reader) (value : List ℕ) → Taken (key_of s) value r q → Leads s value t → (Full most s → ⊥) → Passed most s r t q
@@ -48,3 +49,8 @@ forbids most s r q value n k no_value e = subst (λ ls. Judged most s (line_numb
 -- a line as it should be, but for the room
 pub crowds : (most : ℕ) (s : Stage) (r q : Reader) (value : List ℕ) (n : ℕ) → Taken (key_of s) value r q → Allowed s value → Full most s → n ≡ line_number r → Stopped most s r (TooMany n)
 crowds most s r q value n k a full e = subst (λ ls. Judged most s (line_number r) ls (Err (TooMany n))) (sym k.next) (too_many refl a full (ap (λ m. Err (TooMany m)) e))
+
+-- a line whose value is one of several names, or is not allowed
+pub chosen : {X : Type 0} (most : ℕ) (s : Stage) (r q : Reader) (value : List ℕ) (n : ℕ) (o : Option X) (a : Result X Fault) (to : X → Stage) (No : Type 0) (Is : X → Type 0) → Taken (key_of s) value r q → n ≡ line_number r → a ≡ ok_or o (Value n) → MatchOption o No Is → (No → Allowed s value → ⊥) → ((x : X) → Is x → Leads s value (to x)) → (Full most s → ⊥) → Reaches most s to a r q
+chosen most s r q value n None a to No Is k line e m none some room = subst (λ b. Reaches most s to b r q) (sym e) (forbids most s r q value n k (none m) line)
+chosen most s r q value n (Some x) a to No Is k line e m none some room = subst (λ b. Reaches most s to b r q) (sym e) (passes most s r (to x) q value k (some x m) room)

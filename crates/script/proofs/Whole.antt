@@ -1,35 +1,21 @@
 -- A whole text, from its first line on.
-use Rattle.std.proofs.Common.{◌≡◌, ℕ, ◌<◌, ◌≤◌, min, List, [], ◌∷◌, ◌++◌, length, IfOk, Ok, Err, MatchBool, Result, sym, refl, ap, ◌∙◌, subst, ⊎_elim}
+use Rattle.std.proofs.Common.{◌≡◌, ℕ, ◌<◌, ◌≤◌, min, List, length, IfOk, Ok, Err, MatchBool, Result, sym, ap, ◌∙◌, subst, ⊎_elim}
 use Rattle.std.proofs.lemmas.Bool.{cases_lt, le-ltb, lt-ltb}
-use Rattle.book.specs.declared.call.Event.{Event}
 use Rattle.text.specs.Ahead.{ahead, line_number, Opened}
 use Rattle.text.specs.Lines.{lines}
 use Rattle.text.specs.declared.fault.Fault.{Fault}
 use Rattle.text.specs.declared.fault.Fault.TheVariants.{TooLong}
 use Rattle.text.specs.declared.reader.Reader.{Reader}
 use Rattle.script.specs.declared.kind.Kind.{Kind}
-use Rattle.script.specs.Stages.{at_lock, at_worker, Events}
-use Rattle.script.specs.Verdicts.{Verdict, Judged, Passed}
+use Rattle.script.specs.Stages.{at_lock, Events}
+use Rattle.script.specs.Verdicts.{Verdict, Judged}
 use Rattle.script.specs.Schedule.{Gives, IsSchedule, told}
 use Rattle.script.proofs.Once.{once}
-use Rattle.script.proofs.Forms.{clash, same_pair, text_form, within, written_read}
-
--- what the text gives is what the lines ahead of q give, after these events
-abbrev pub Sofar : ℕ → List ℕ → Kind → Events → Reader → Type 0
-Sofar most text k es q = (v : Verdict) → Judged most (at_worker k es) (line_number q) (ahead q) v → Judged most at_lock 1 (lines text) v
+use Rattle.script.proofs.Forms.{same_pair, text_form, within, written_read}
 
 -- a reader at the start
 pub opened : (most : ℕ) (text : List ℕ) (r : Reader) (v : Verdict) → Opened text r → Judged most at_lock (line_number r) (ahead r) v → Judged most at_lock 1 (lines text) v
 opened most text r v o j = subst (λ n. Judged most at_lock n (lines text) v) o.first (subst (λ ls. Judged most at_lock (line_number r) ls v) o.all j)
-
-pub begun : (most : ℕ) (text : List ℕ) (k : Kind) (es : Events) (r q : Reader) → Opened text r → Passed most at_lock r (at_worker k []) q → es ≡ [] → Sofar most text k es q
-begun most text k es r q o p e v j = opened most text r v o (p.then v (subst (λ l. Judged most (at_worker k l) (line_number q) (ahead q) v) e j))
-
-pub turned : (most : ℕ) (text : List ℕ) (k : Kind) (es fs : Events) (e : Event) (r q : Reader) → Sofar most text k es r → Passed most (at_worker k es) r (at_worker k (es ++ e ∷ [])) q → fs ≡ es ++ e ∷ [] → Sofar most text k fs q
-turned most text k es fs e r q s p same v j = s v (p.then v (subst (λ l. Judged most (at_worker k l) (line_number q) (ahead q) v) same j))
-
-pub ended : (most : ℕ) (text : List ℕ) (k : Kind) (es : Events) (r : Reader) → Sofar most text k es r → ahead r ≡ [] → Judged most at_lock 1 (lines text) (Ok (k, es))
-ended most text k es r s done = s _ (subst (λ ls. Judged most (at_worker k es) (line_number r) ls (Ok (k, es))) (sym done) refl)
 
 -- ## The verdict
 
@@ -63,7 +49,7 @@ pub told_ok : (r : Result Kind Fault) (items : Events) (k : Kind) (es : Events) 
 told_ok (Ok j) items k es e =
     let pair = same_pair j items k es e in
     (ap (λ x. Ok x.0) pair, ap (λ x. x.1) pair)
-told_ok (Err f) items k es e = clash k es f (sym e)
+told_ok (Err f) items k es e = cc e
 
 pub form : (room : ℕ) (text : List ℕ) (r : Result Kind Fault) (items : Events) → length text ≤ 32768 → Gives room text (told r items) → IfOk r (λ k. IsSchedule room text k items)
 form room text (Ok k) items h g = given_schedule room text k items h g

@@ -3,3 +3,4 @@ pub mod Written
 pub mod Stages
 pub mod Verdicts
 pub mod Schedule
+pub mod Reads

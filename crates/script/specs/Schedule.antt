@@ -3,13 +3,11 @@ use Rattle.std.specs.Prelude.{◌≡◌, ℕ, ◌≤◌, min, List, [], ◌∷�
 use Rattle.book.specs.declared.call.Call.{Call}
 use Rattle.book.specs.declared.call.Call.TheVariants.{Lock, Unlock, Step, Look, Enter}
 use Rattle.book.specs.declared.call.Event.{Event}
-use Rattle.text.specs.Lines.{lines}
 use Rattle.text.specs.declared.fault.Fault.{Fault}
 use Rattle.text.specs.declared.fault.Fault.TheVariants.{TooLong}
 use Rattle.script.specs.declared.kind.Kind.{Kind}
 use Rattle.script.specs.Written.{schedule_text}
-use Rattle.script.specs.Stages.{at_lock}
-use Rattle.script.specs.Verdicts.{Verdict, Judged}
+use Rattle.script.specs.Verdicts.{Verdict, Yields}
 
 abbrev pub CallFits : Call → Type 0
 CallFits Lock = Unit {0}
@@ -32,7 +30,7 @@ pub record IsSchedule (room : ℕ) (text : List ℕ) (k : Kind) (es : List Event
 
 -- what a text gives: its length is looked at first, then its lines from the top
 abbrev pub Gives : ℕ → List ℕ → Verdict → Type 0
-Gives room text v = MatchBool (nat_lt 32768 (length text)) (v ≡ Err TooLong) (Judged (min room 1024) at_lock 1 (lines text) v)
+Gives room text v = MatchBool (nat_lt 32768 (length text)) (v ≡ Err TooLong) (Yields (min room 1024) text v)
 
 -- what a reading answers, with the events in its list
 abbrev pub told : Result Kind Fault → List Event → Verdict

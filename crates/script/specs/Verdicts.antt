@@ -1,8 +1,8 @@
 -- What a text gives, line by line from the top: a kind and its events, or a fault.
-use Rattle.std.specs.Prelude.{◌≡◌, ℕ, ◌+◌, ◌<◌, List, [], ◌∷◌, length, Ok, Err, Result}
+use Rattle.std.specs.Prelude.{◌≡◌, ℕ, ◌+◌, ◌<◌, List, [], ◌∷◌, length, Ok, Err, MatchResult, Result}
 use Rattle.book.specs.declared.call.Event.{Event}
 use Rattle.text.specs.Ahead.{ahead, line_number}
-use Rattle.text.specs.Lines.{Line, whole, cut}
+use Rattle.text.specs.Lines.{Line, whole, cut, lines}
 use Rattle.text.specs.Wrong.{Amiss}
 use Rattle.text.specs.declared.fault.Fault.{Fault}
 use Rattle.text.specs.declared.fault.Fault.TheVariants.{TooMany, Ended}
@@ -33,6 +33,10 @@ Judged most s n [] v = AtEnd s n v
 Judged most s n (cut ∷ ls) v = v ≡ Err (Ended n)
 Judged most s n (whole key value ∷ ls) v = AtLine most s n key value (λ t. Judged most t (n + 1) ls v) v
 
+-- what a text gives, where there may be so many events
+abbrev pub Yields : ℕ → List ℕ → Verdict → Type 0
+Yields most text v = Judged most at_lock 1 (lines text) v
+
 -- ## Readers
 
 -- what is given from s at r on is what is given from t at q on
@@ -42,3 +46,7 @@ pub record Passed (most : ℕ) (s : Stage) (r : Reader) (t : Stage) (q : Reader)
 
 abbrev pub Stopped : ℕ → Stage → Reader → Fault → Type 0
 Stopped most s r f = Judged most s (line_number r) (ahead r) (Err f)
+
+-- reading goes on from s to the stage of what was read, or stops
+abbrev pub Reaches : {X : Type 0} → ℕ → Stage → (X → Stage) → Result X Fault → Reader → Reader → Type 0
+Reaches most s to result r q = MatchResult result (λ x. Passed most s r (to x) q) (λ f. Stopped most s r f)

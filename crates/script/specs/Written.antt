@@ -6,6 +6,7 @@ use Rattle.book.specs.declared.call.Call.TheVariants.{Lock, Unlock, Step, Look, 
 use Rattle.book.specs.declared.call.Event.{Event}
 use Rattle.text.specs.Lines.{line_text}
 use Rattle.script.specs.declared.kind.Kind.{Kind}
+use Rattle.script.specs.declared.written.Schedule.{Schedule}
 use Rattle.script.specs.Names.{kind_name}
 
 abbrev pub look_text : ℕ → ℕ → List ℕ
@@ -23,3 +24,6 @@ event_text e = line_text (codes "worker") (decimal e.worker) ++ call_text e.call
 
 abbrev pub schedule_text : Kind → List Event → List ℕ
 schedule_text k es = line_text (codes "lock") (kind_name k) ++ flat_map event_text es
+
+abbrev pub written : Schedule → List ℕ
+written s = schedule_text s.kind s.events.now

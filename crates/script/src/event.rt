@@ -1,14 +1,15 @@
-ghost use Rattle.std.specs.Prelude.{◌≡◌, ℕ, ◌+◌, ◌<◌, [], ◌∷◌, ◌++◌, length, MatchOption, MatchResult, ◌≢◌};
+ghost use Rattle.std.specs.Prelude.{◌≡◌, ℕ, ◌+◌, ◌<◌, [], ◌∷◌, ◌++◌, length, MatchOption, OnOk, ◌≢◌};
 ghost use Rattle.text.specs.Ahead.{ahead};
 ghost use Rattle.script.specs.Names.{call_name, Bare};
 ghost use Rattle.script.specs.Stages.{Events, at_worker, at_call, at_chest, with_call};
-ghost use Rattle.script.specs.Verdicts.{Passed, Stopped};
+ghost use Rattle.script.specs.Verdicts.{Reaches};
 
 use crate::Kind;
 use book::{Call, Event};
-use text::{Fault, Reader, same_bytes};
+use text::{Fault, Reader};
 
-// The call of this name that has no line of its own after it.
+// The call of this name that has no line of its own after it. `Call` is another crate's, so this is
+// no method of it.
 fn bare_call(name: &[u8]) -> Option<Call>
     ensures { MatchOption result ((c : Call) → Bare c → name.now ≢ call_name c) (λ c. Bare c × (name.now ≡ call_name c)) }
 {
@@ -22,7 +23,7 @@ fn bare_call(name: &[u8]) -> Option<Call>
 }
 
 fn read_look(reader: &mut Reader) -> Result<Call, Fault>
-    ensures { (most : ℕ) (k : Kind) (es : Events) (w : ℕ) → MatchResult result (λ c. Passed most (at_chest k es w) reader.old (at_worker k (with_call es w c)) reader.new) (λ f. Stopped most (at_chest k es w) reader.old f) }
+    ensures { (most : ℕ) (k : Kind) (es : Events) (w : ℕ) → Reaches most (at_chest k es w) (λ c. at_worker k (with_call es w c)) result reader.old reader.new }
 {
     let chest = reader.number(b"chest", u32::MAX)?;
     let grams = reader.number(b"grams", u32::MAX)?;
@@ -30,22 +31,20 @@ fn read_look(reader: &mut Reader) -> Result<Call, Fault>
 }
 
 fn read_call(reader: &mut Reader) -> Result<Call, Fault>
-    ensures { (most : ℕ) (k : Kind) (es : Events) (w : ℕ) → MatchResult result (λ c. Passed most (at_call k es w) reader.old (at_worker k (with_call es w c)) reader.new) (λ f. Stopped most (at_call k es w) reader.old f) }
+    ensures { (most : ℕ) (k : Kind) (es : Events) (w : ℕ) → Reaches most (at_call k es w) (λ c. at_worker k (with_call es w c)) result reader.old reader.new }
 {
     let line = reader.line();
     let name = reader.value(b"call")?;
-    if same_bytes(name, b"look") {
+    if name == b"look".as_slice() {
         return read_look(reader);
     }
-    let Some(call) = bare_call(name) else {
-        return Err(Fault::Value { line });
-    };
-    Ok(call)
+    bare_call(name).ok_or(Fault::Value { line })
 }
 
 // The worker of the next event, of which there may be `room` more.
 fn read_worker(reader: &mut Reader, room: usize) -> Result<u8, Fault>
-    ensures { (most : ℕ) (k : Kind) (es : Events) → length es + room ≡ most → (ahead reader.old ≢ []) → MatchResult result (λ w. (0 < room) × Passed most (at_worker k es) reader.old (at_call k es w) reader.new) (λ f. Stopped most (at_worker k es) reader.old f) }
+    ensures room { OnOk result (0 < room) }
+    ensures value { (most : ℕ) (k : Kind) (es : Events) → length es + room ≡ most → (ahead reader.old ≢ []) → Reaches most (at_worker k es) (λ w. at_call k es w) result reader.old reader.new }
 {
     let line = reader.line();
     let worker = reader.number(b"worker", 255)?;
@@ -57,7 +56,8 @@ fn read_worker(reader: &mut Reader, room: usize) -> Result<u8, Fault>
 
 // The next event, of which there may be `room` more.
 pub fn read_event(reader: &mut Reader, room: usize) -> Result<Event, Fault>
-    ensures { (most : ℕ) (k : Kind) (es : Events) → length es + room ≡ most → (ahead reader.old ≢ []) → MatchResult result (λ e. (0 < room) × Passed most (at_worker k es) reader.old (at_worker k (es ++ e ∷ [])) reader.new) (λ f. Stopped most (at_worker k es) reader.old f) }
+    ensures room { OnOk result (0 < room) }
+    ensures value { (most : ℕ) (k : Kind) (es : Events) → length es + room ≡ most → (ahead reader.old ≢ []) → Reaches most (at_worker k es) (λ e. at_worker k (es ++ e ∷ [])) result reader.old reader.new }
 {
     let worker = read_worker(reader, room)?;
     let call = read_call(reader)?;

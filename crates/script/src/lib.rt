@@ -2,6 +2,7 @@
 #![tactic(auto)]
 
 mod event;
+mod events;
 mod kind;
 mod round;
 mod schedule;

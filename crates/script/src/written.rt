@@ -2,10 +2,9 @@ ghost use Rattle.std.specs.Prelude.{◌≡◌, length};
 ghost use Rattle.std.specs.List.{flat_map};
 ghost use Rattle.print.specs.Overwrite.{write_answer, write_memory};
 ghost use Rattle.print.specs.Printed.{Printed};
-ghost use Rattle.script.specs.Written.{call_text, event_text, look_text, schedule_text};
+ghost use Rattle.script.specs.Written.{call_text, event_text, look_text, schedule_text, written};
 
 use crate::Kind;
-use crate::kind::kind_name;
 use book::{Call, Event};
 use list::Memory;
 use print::{Printable, Sink, put_line, put_number_line, write};
@@ -21,8 +20,8 @@ fn put_look<S: Sink>(sink: &mut S, chest: u32, grams: u32) -> Result<(), Memory>
     ensures { Printed (S.Sink.page sink.old) (look_text chest grams) result (S.Sink.page sink.new) }
 {
     put_line(sink, b"call", b"look")?;
-    put_number_line(sink, b"chest", u64::from(chest))?;
-    put_number_line(sink, b"grams", u64::from(grams))
+    put_number_line(sink, b"chest", chest)?;
+    put_number_line(sink, b"grams", grams)
 }
 
 fn put_call<S: Sink>(sink: &mut S, call: Call) -> Result<(), Memory>
@@ -40,7 +39,7 @@ fn put_call<S: Sink>(sink: &mut S, call: Call) -> Result<(), Memory>
 fn put_event<S: Sink>(sink: &mut S, event: Event) -> Result<(), Memory>
     ensures { Printed (S.Sink.page sink.old) (event_text event) result (S.Sink.page sink.new) }
 {
-    put_number_line(sink, b"worker", u64::from(event.worker))?;
+    put_number_line(sink, b"worker", event.worker)?;
     put_call(sink, event.call)
 }
 
@@ -56,12 +55,12 @@ fn put_events<S: Sink>(sink: &mut S, events: &[Event]) -> Result<(), Memory>
 fn put_schedule<S: Sink>(sink: &mut S, kind: Kind, events: &[Event]) -> Result<(), Memory>
     ensures { Printed (S.Sink.page sink.old) (schedule_text kind events.now) result (S.Sink.page sink.new) }
 {
-    put_line(sink, b"lock", kind_name(kind))?;
+    put_line(sink, b"lock", kind.name())?;
     put_events(sink, events)
 }
 
 impl Printable for Schedule<'_> {
-    ghost shown = { λ s. schedule_text s.kind s.events.now };
+    ghost shown = { written };
 
     fn print<S: Sink>(&self, sink: &mut S) -> Result<(), Memory> {
         put_schedule(sink, self.kind, self.events)
@@ -70,8 +69,8 @@ impl Printable for Schedule<'_> {
 
 // Writes a schedule at the front of the memory, and answers its length.
 pub fn write_schedule(schedule: &Schedule, memory: &mut [u8]) -> Result<usize, Memory>
-    ensures value { result ≡ write_answer (schedule_text schedule.now.kind schedule.now.events.now) memory.old }
-    ensures memory { memory.new ≡ write_memory (schedule_text schedule.now.kind schedule.now.events.now) memory.old }
+    ensures value { result ≡ write_answer (written schedule.now) memory.old }
+    ensures memory { memory.new ≡ write_memory (written schedule.now) memory.old }
 {
     write(schedule, memory)
 }

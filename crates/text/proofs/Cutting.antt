@@ -1,7 +1,9 @@
 -- A list that is cut at the first of one byte.
-use Rattle.std.proofs.Common.{◌≡◌, ℕ, suc, ◌+◌, ◌-◌, ◌<◌, ◌≤◌, true, false, cond, eqb, List, [], ◌∷◌, length, get_or, take, drop, sym, refl, ap, ◌∙◌, add-one, arith}
-use Rattle.std.proofs.lemmas.List.{drop_more, drop_all, take_rest}
-use Rattle.std.proofs.lemmas.Bool.{ne_eqb, eq-eqb as eqb_since, cond-true, cond-false}
+use Rattle.std.proofs.Common.{◌≡◌, ℕ, suc, ◌+◌, ◌-◌, ◌<◌, ◌≤◌, true, false, cond, eqb, ltb, List, [], ◌∷◌, length, take, drop, position, Some, None, sym, refl, ap, ◌∙◌, subst, add-one, arith}
+use Rattle.std.specs.List.{position_or_len}
+use Rattle.std.proofs.lemmas.List.{take_rest}
+use Rattle.std.proofs.lemmas.List.Recursion.{is_position_or_len}
+use Rattle.std.proofs.lemmas.Bool.{ltb-true, ltb-false}
 use Rattle.text.specs.Cuts.{has, before, after}
 
 pub take_before : (b : ℕ) (xs : List ℕ) → take (length (before b xs)) xs ≡ before b xs
@@ -19,18 +21,6 @@ drop_after b xs = rw add-one (past b xs)
         elim (eqb x b) as (λ v. drop (suc (length (cond v [] (x ∷ before b xs)))) (x ∷ xs) ≡ cond v xs (after b xs))
         [ true ↦ refl | false ↦ past b xs ]
 
--- a step of the search for b, at the index i
-pub before_here : (b : ℕ) (xs : List ℕ) (i : ℕ) → i < length xs → get_or xs i 0 ≡ b → length (before b (drop i xs)) ≡ 0
-before_here b xs i h e =
-    ap (λ l. length (before b l)) (drop_more xs i 0 h) ∙ ap length (cond-true (eqb (get_or xs i 0) b) _ _ (eqb_since _ _ e))
-
-pub before_next : (b : ℕ) (xs : List ℕ) (i : ℕ) → i < length xs → (get_or xs i 0 ≡ b → ⊥) → length (before b (drop i xs)) ≡ length (before b (drop (i + 1) xs)) + 1
-before_next b xs i h e =
-    ap (λ l. length (before b l)) (drop_more xs i 0 h) ∙ ap length (cond-false (eqb (get_or xs i 0) b) _ _ (ne_eqb _ _ e)) ∙ sym (add-one _)
-
-pub before_none : (b : ℕ) (xs : List ℕ) (i : ℕ) → length xs ≤ i → length (before b (drop i xs)) ≡ 0
-before_none b xs i h = ap (λ l. length (before b l)) (drop_all i xs h)
-
 -- whether b is there
 pub has_short : (b : ℕ) (xs : List ℕ) → length (before b xs) < length xs → has b xs ≡ true
 has_short b [] h = absurd (omega arith)
@@ -44,12 +34,6 @@ has_not b (x ∷ xs) h =
     (elim (eqb x b) as (λ v. length (x ∷ xs) ≤ length (cond v [] (x ∷ before b xs)) → cond v true (has b xs) ≡ false)
     [ true ↦ λ h. absurd (omega arith) | false ↦ λ h. has_not b xs (omega arith) ]) h
 
-pub before_le : (b : ℕ) (xs : List ℕ) → length (before b xs) ≤ length xs
-before_le b [] = omega arith
-before_le b (x ∷ xs) =
-    elim (eqb x b) as (λ v. length (cond v [] (x ∷ before b xs)) ≤ length (x ∷ xs))
-    [ true ↦ omega arith | false ↦ omega (arith, before_le b xs) ]
-
 pub before_all : (b : ℕ) (xs : List ℕ) → has b xs ≡ false → before b xs ≡ xs
 before_all b [] h = refl
 before_all b (x ∷ xs) h =
@@ -62,13 +46,37 @@ after_all b (x ∷ xs) h =
     (elim (eqb x b) as (λ v. cond v true (has b xs) ≡ false → cond v xs (after b xs) ≡ [])
     [ true ↦ λ h. cc | false ↦ λ h. after_all b xs h ]) h
 
--- the same, where a program has found the place n
-pub front_at : (b : ℕ) (xs : List ℕ) (n : ℕ) → n ≡ length (before b xs) → take n xs ≡ before b xs
-front_at b xs n e = ap (λ k. take k xs) e ∙ take_before b xs
+-- where the first b was found
+pub record Cut (b : ℕ) (xs : List ℕ) (n : ℕ) : Type 0 where
+  pub there : has b xs ≡ true
+  pub front : take n xs ≡ before b xs
+  pub back : take (length xs - (n + 1)) (drop (n + 1) xs) ≡ after b xs
 
-pub back_at : (b : ℕ) (xs : List ℕ) (n : ℕ) → n ≡ length (before b xs) + 1 → drop n xs ≡ after b xs
-back_at b xs n e = ap (λ k. drop k xs) e ∙ drop_after b xs
+abbrev place : ℕ → List ℕ → ℕ
+place b xs = position_or_len (λ x. eqb x b) xs
 
--- `&xs[n..]`, as a program has it
-pub tail_at : (b : ℕ) (xs : List ℕ) (n : ℕ) → n ≡ length (before b xs) + 1 → take (length xs - n) (drop n xs) ≡ after b xs
-tail_at b xs n e = take_rest xs n ∙ back_at b xs n e
+place_before : (b : ℕ) (xs : List ℕ) → length (before b xs) ≡ place b xs
+place_before b xs = is_position_or_len (λ l. length (before b l)) (λ x. eqb x b) refl (λ x l. elim (eqb x b) as (λ v. length (cond v [] (x ∷ before b l)) ≡ cond v 0 (1 + length (before b l))) [ true ↦ refl | false ↦ omega arith ]) xs
+
+cut_here : (b : ℕ) (xs : List ℕ) → place b xs < length xs → Cut b xs (place b xs)
+cut_here b xs h =
+    let e = place_before b xs in
+    record {
+      there = has_short b xs (omega arith);
+      front = ap (λ k. take k xs) (sym e) ∙ take_before b xs;
+      back = take_rest xs (place b xs + 1) ∙ ap (λ k. drop (k + 1) xs) (sym e) ∙ drop_after b xs;
+    }
+
+pub found : (b : ℕ) (xs : List ℕ) (n : ℕ) → position (λ x. eqb x b) xs ≡ Some n → Cut b xs n
+found b xs n e =
+    (elim (ltb (place b xs) (length xs)) as (λ v. ltb (place b xs) (length xs) ≡ v → cond v (Some (place b xs)) None ≡ Some n → Cut b xs n) [
+      | true ↦ λ t f. (let same : place b xs ≡ n = cc f in subst (Cut b xs) same (cut_here b xs (ltb-true _ _ t)))
+      | false ↦ λ t f. cc f
+    ]) refl e
+
+pub missing : (b : ℕ) (xs : List ℕ) → position (λ x. eqb x b) xs ≡ None → has b xs ≡ false
+missing b xs e =
+    (elim (ltb (place b xs) (length xs)) as (λ v. ltb (place b xs) (length xs) ≡ v → cond v (Some (place b xs)) None ≡ None → has b xs ≡ false) [
+      | true ↦ λ t f. cc f
+      | false ↦ λ t f. has_not b xs (omega (arith, ltb-false (place b xs) (length xs) t, place_before b xs))
+    ]) refl e

@@ -1,5 +1,6 @@
 -- The first line of a text.
-use Rattle.std.proofs.Common.{◌≡◌, ℕ, ◌<◌, true, false, cond, eqb, List, [], ◌∷◌, ◌++◌, length, sym, refl, ap, ◌∙◌, subst, append_assoc, append-nil, arith}
+use Rattle.std.proofs.Common.{◌≡◌, ℕ, ◌<◌, Bool, MatchBool, true, false, cond, eqb, List, [], ◌∷◌, ◌++◌, length, sym, refl, ap, ◌∙◌, subst, append_assoc, append-nil, arith}
+use Rattle.std.proofs.lemmas.Bool.{ne_eqb}
 use Rattle.text.specs.Cuts.{has, before, after}
 use Rattle.text.specs.Lines.{Line, whole, cut, lines_after, lines}
 
@@ -46,13 +47,14 @@ lines_end xs e = ap (lines_after []) e
 pub lines_some : (xs : List ℕ) → 0 < length xs → lines xs ≡ [] → ⊥
 lines_some xs some e =
     (elim (has 10 xs) as (λ v. has 10 xs ≡ v → ⊥) [
-      | true ↦ λ h. nil_not (sym (lines_whole xs h) ∙ e)
-      | false ↦ λ h. nil_not (sym (lines_cut xs h some) ∙ e)
+      | true ↦ λ h. cc (lines_whole xs h)
+      | false ↦ λ h. cc (lines_cut xs h some)
     ]) refl
-  where
-    nil_not : {l : Line} {ls : List Line} → l ∷ ls ≡ [] → ⊥
-    nil_not e = let z : ◌≡◌ {A = ℕ} 0 1 = cc in omega arith
 
 pub some_lines : (xs : List ℕ) → (lines xs ≡ [] → ⊥) → 0 < length xs
 some_lines [] no_lines = absurd (no_lines (lines_end [] refl))
 some_lines (x ∷ xs) no_lines = omega arith
+
+pub done_lines : (r : Bool) (xs : List ℕ) → r ≡ eqb (length xs) 0 → MatchBool r (lines xs ≡ []) (lines xs ≡ [] → ⊥)
+done_lines r [] e = subst (λ b. MatchBool b (lines [] ≡ []) (lines [] ≡ [] → ⊥)) (sym e) (lines_end [] refl)
+done_lines r (x ∷ xs) e = subst (λ b. MatchBool b (lines (x ∷ xs) ≡ []) (lines (x ∷ xs) ≡ [] → ⊥)) (sym (e ∙ ne_eqb (length (x ∷ xs)) 0 (λ z. omega arith))) (lines_some (x ∷ xs) (omega arith))

@@ -1,12 +1,12 @@
 -- What a reader hands on of the lines that are still to be read.
-use Rattle.std.specs.Prelude.{◌≡◌, ℕ, ◌+◌, List, [], ◌∷◌, drop}
+use Rattle.std.specs.Prelude.{◌≡◌, ℕ, ◌+◌, List, [], ◌∷◌}
 use Rattle.text.specs.Lines.{Line, whole, cut, lines}
 use Rattle.text.specs.declared.reader.Reader.{Reader}
 use Rattle.text.specs.declared.token.Token.{Token}
 use Rattle.text.specs.declared.token.Token.TheVariants as token
 
 abbrev pub ahead : Reader → List Line
-ahead r = lines (drop r.at r.text.now)
+ahead r = lines r.left.now
 
 -- the number of the next line
 abbrev pub line_number : Reader → ℕ

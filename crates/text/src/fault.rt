@@ -1,8 +1,12 @@
-ghost use Rattle.std.specs.Prelude.{◌≡◌};
-ghost use Rattle.text.specs.Faults.{fault_number, fault_line};
+ghost use Rattle.std.specs.Prelude.{◌≡◌, Some};
+ghost use Rattle.text.specs.Faults.{fault_number, fault_line, fault_words};
+
+use crate::MOST_BYTES;
+use std::error::Error;
+use std::fmt;
 
 // Why a text is turned down, and at which line.
-#[derive(Clone, Copy, PartialEq, Eq)]
+#[derive(Clone, Copy, Debug, PartialEq, Eq)]
 pub enum Fault {
     // a line whose key is not the expected one
     Key { line: u32 },
@@ -42,3 +46,19 @@ impl Fault {
         }
     }
 }
+
+impl fmt::Display for Fault {
+    ghost output = { λ f. Some (fault_words f) };
+
+    fn fmt<W: fmt::Write>(&self, f: &mut fmt::Formatter<W>) -> fmt::Result {
+        match self {
+            Fault::Key { line } => write!(f, "line {line}: not the expected key"),
+            Fault::Value { line } => write!(f, "line {line}: not an allowed value"),
+            Fault::TooMany { line } => write!(f, "line {line}: an event too many"),
+            Fault::Ended { line } => write!(f, "line {line}: the text ends"),
+            Fault::TooLong => write!(f, "more than {MOST_BYTES} bytes"),
+        }
+    }
+}
+
+impl Error for Fault {}

@@ -1,15 +1,8 @@
-ghost use Rattle.std.specs.Prelude.{◌≡◌, ◌≤◌, decimal, MatchBool, MatchResult, OnErr, ◌≢◌};
+ghost use Rattle.std.specs.Prelude.{◌≡◌, ◌≤◌, decimal, MatchResult, OnErr};
 ghost use Rattle.text.specs.Ahead.{Taken, ahead, line_number};
 ghost use Rattle.text.specs.Wrong.{Any, UpTo, Wrong};
 
 use crate::{Fault, Reader, Token, number_in};
-
-// Whether two parts of a text are the same bytes.
-pub fn same_bytes(a: &[u8], b: &[u8]) -> bool
-    ensures { MatchBool result (a.now ≡ b.now) (a.now ≢ b.now) }
-{
-    a == b
-}
 
 impl<'a> Reader<'a> {
     // The value of the next line, which has this key.
@@ -22,7 +15,7 @@ impl<'a> Reader<'a> {
         let Token::Line { key, value, line } = next.token() else {
             return Err(Fault::Ended { line: self.line });
         };
-        if !same_bytes(key, expected) {
+        if key != expected {
             return Err(Fault::Key { line });
         }
         *self = next;
@@ -34,12 +27,9 @@ impl<'a> Reader<'a> {
         ensures value { MatchResult result (λ n. (n ≤ max) × Taken key.now (decimal n) self.old self.new) (λ f. Wrong key.now (UpTo max) (ahead self.old) (line_number self.old) f) }
         ensures refused { OnErr result (self.new ≡ self.old) }
     {
-        let line = self.line;
         let mut next = *self;
         let value = next.value(key)?;
-        let Some(n) = number_in(value, max) else {
-            return Err(Fault::Value { line });
-        };
+        let n = number_in(value, max).ok_or(Fault::Value { line: self.line })?;
         *self = next;
         Ok(n)
     }

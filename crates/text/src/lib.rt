@@ -8,7 +8,6 @@ mod reader;
 mod token;
 
 pub use fault::Fault;
-pub use field::same_bytes;
 pub use number::number_in;
 pub use reader::{MOST_BYTES, Reader};
 pub use token::Token;

@@ -5,11 +5,7 @@ ghost use Rattle.text.specs.Decimal.{Plain, ReadsUpTo};
 fn is_plain(value: &[u8]) -> bool
     ensures { MatchBool result (Plain value.now) (Plain value.now → ⊥) }
 {
-    match value {
-        [b'0'] => true,
-        [b'1'..=b'9', ..] => true,
-        _ => false,
-    }
+    matches!(value, [b'0'] | [b'1'..=b'9', ..])
 }
 
 // The number up to `max` that the bytes write, in decimal without leading zeros.
@@ -19,11 +15,6 @@ pub fn number_in(value: &[u8], max: u32) -> Option<u32>
     if !is_plain(value) {
         return None;
     }
-    let Ok(text) = std::str::from_utf8(value) else {
-        return None;
-    };
-    let Ok(n) = text.parse::<u32>() else {
-        return None;
-    };
+    let n = std::str::from_utf8(value).ok()?.parse::<u32>().ok()?;
     if n <= max { Some(n) } else { None }
 }

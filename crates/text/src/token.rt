@@ -1,4 +1,4 @@
-ghost use Rattle.std.specs.Prelude.{◌≡◌, ◌≤◌, [], length, take, MatchBool, ◌≢◌};
+ghost use Rattle.std.specs.Prelude.{◌≡◌, [], take, position, MatchBool, ◌≢◌, ◌==◌};
 ghost use Rattle.text.specs.Cuts.{before, after};
 ghost use Rattle.text.specs.Ahead.{Handed, Opened, ahead, line_number};
 
@@ -6,7 +6,7 @@ use crate::{MOST_BYTES, Reader};
 
 // A line of the text as its key and its value, both parts of the text; a line that the text's end
 // cuts; or that end. `line` is its number.
-#[derive(Clone, Copy)]
+#[derive(Clone, Copy, Debug, PartialEq, Eq)]
 pub enum Token<'a> {
     Line {
         key: &'a [u8],
@@ -21,17 +21,11 @@ pub enum Token<'a> {
     },
 }
 
-// How many bytes stand before the first `b`.
-fn find(bytes: &[u8], b: u8) -> usize
-    ensures value { result ≡ length (before b bytes.now) }
-    ensures within { result ≤ length bytes.now }
+// Where the first `b` stands.
+fn find(bytes: &[u8], b: u8) -> Option<usize>
+    ensures { result ≡ position (λ x. x == b) bytes.now }
 {
-    for (i, x) in bytes.iter().enumerate() {
-        if *x == b {
-            return i;
-        }
-    }
-    bytes.len()
+    bytes.iter().position(|x| *x == b)
 }
 
 // The key ends before the first `=`; without one the whole line is the key.
@@ -39,12 +33,10 @@ fn split<'a>(row: &'a [u8]) -> (&'a [u8], &'a [u8])
     ensures key { result.0.now ≡ before 61 row.now }
     ensures value { result.1.now ≡ after 61 row.now }
 {
-    let sign = find(row, b'=');
-    if sign < row.len() {
-        (&row[0..sign], &row[sign + 1..])
-    } else {
-        (row, &row[sign..])
-    }
+    let Some(sign) = find(row, b'=') else {
+        return (row, &[]);
+    };
+    (&row[..sign], &row[sign + 1..])
 }
 
 impl<'a> Reader<'a> {
@@ -52,10 +44,8 @@ impl<'a> Reader<'a> {
     pub fn new(text: &'a [u8]) -> Reader<'a>
         ensures { Opened (take 32768 text.now) result }
     {
-        let len = text.len().min(MOST_BYTES);
         Reader {
-            text: &text[0..len],
-            at: 0,
+            left: &text[..MOST_BYTES.min(text.len())],
             line: 1,
         }
     }
@@ -68,10 +58,11 @@ impl<'a> Reader<'a> {
     }
 
     // Whether the text is read to its end.
+    #[tactic(auto, using(crate::proofs::First::done_lines))]
     pub fn is_done(&self) -> bool
         ensures { MatchBool result (ahead self.now ≡ []) (ahead self.now ≢ []) }
     {
-        self.at == self.text.len()
+        self.left.is_empty()
     }
 
     // The next line, or how the text ends.
@@ -82,13 +73,11 @@ impl<'a> Reader<'a> {
         if self.is_done() {
             return Token::End { line };
         }
-        let left = &self.text[self.at..];
-        let end = find(left, b'\n');
-        if end == left.len() {
+        let Some(end) = find(self.left, b'\n') else {
             return Token::Cut { line };
-        }
-        let (key, value) = split(&left[0..end]);
-        self.at += end + 1;
+        };
+        let (key, value) = split(&self.left[..end]);
+        self.left = &self.left[end + 1..];
         self.line += 1;
         Token::Line { key, value, line }
     }

@@ -1,6 +1,6 @@
 -- The text of a transcript.
-use Rattle.std.specs.Prelude.{ℕ, ◌+◌, cond, List, [], ◌∷◌, ◌++◌, Some, None, codes, decimal, Option, Result, ◌==◌}
-use Rattle.std.specs.List.{flat_map}
+use Rattle.std.specs.Prelude.{ℕ, List, ◌++◌, Some, None, codes, decimal, Option, Result, ◌==◌}
+use Rattle.std.specs.List.{count_by, flat_map}
 use Rattle.lock.specs.Numbers.{outcome_number}
 use Rattle.lock.specs.declared.answer.Answer.{Answer}
 use Rattle.lock.specs.declared.refusal.Refusal.{Refusal}
@@ -17,8 +17,7 @@ answer_text a = line_text (codes "answer") (decimal (outcome_number a))
 
 -- how many answers are 4
 abbrev pub misuses : List Outcome → ℕ
-misuses [] = 0
-misuses (a ∷ rest) = cond (outcome_number a == 4) 1 0 + misuses rest
+misuses answers = count_by (λ a. outcome_number a == 4) answers
 
 abbrev pub inside_text : Option ℕ → List ℕ
 inside_text (Some w) = line_text (codes "inside") (decimal w)

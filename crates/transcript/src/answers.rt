@@ -14,20 +14,17 @@ use text::Fault;
 fn misuse_count(answers: &[Result<Answer, Refusal>]) -> usize
     ensures { result ≡ misuses answers.now }
 {
-    let mut count = 0;
-    for answer in answers {
-        if outcome_number(*answer) == Refusal::NotHeld.number() {
-            count += 1;
-        }
-    }
-    count
+    answers
+        .iter()
+        .filter(|answer| **answer == Err(Refusal::NotHeld))
+        .count()
 }
 
 fn put_answers<S: Sink>(sink: &mut S, answers: &[Result<Answer, Refusal>]) -> Result<(), Memory>
     ensures { Printed (S.Sink.page sink.old) (flat_map answer_text answers.now) result (S.Sink.page sink.new) }
 {
     for answer in answers {
-        put_number_line(sink, b"answer", u64::from(outcome_number(*answer)))?;
+        put_number_line(sink, b"answer", outcome_number(*answer))?;
     }
     Ok(())
 }
@@ -36,7 +33,7 @@ fn put_inside<S: Sink>(sink: &mut S, inside: Option<u8>) -> Result<(), Memory>
     ensures { Printed (S.Sink.page sink.old) (inside_text inside) result (S.Sink.page sink.new) }
 {
     match inside {
-        Some(worker) => put_number_line(sink, b"inside", u64::from(worker)),
+        Some(worker) => put_number_line(sink, b"inside", worker),
         None => put_line(sink, b"inside", b"none"),
     }
 }
@@ -45,9 +42,9 @@ fn put_ending<S: Sink>(sink: &mut S, ending: Ending, misuse: usize) -> Result<()
     ensures { Printed (S.Sink.page sink.old) (ending_text ending misuse) result (S.Sink.page sink.new) }
 {
     put_inside(sink, ending.inside)?;
-    put_number_line(sink, b"misuse", misuse as u64)?;
-    put_number_line(sink, b"chests", ending.chests as u64)?;
-    put_number_line(sink, b"grams", u64::from(ending.grams))
+    put_number_line(sink, b"misuse", misuse)?;
+    put_number_line(sink, b"chests", ending.chests)?;
+    put_number_line(sink, b"grams", ending.grams)
 }
 
 fn put_run<S: Sink>(
@@ -64,8 +61,8 @@ fn put_run<S: Sink>(
 fn put_fault<S: Sink>(sink: &mut S, fault: Fault) -> Result<(), Memory>
     ensures { Printed (S.Sink.page sink.old) (fault_text fault) result (S.Sink.page sink.new) }
 {
-    put_number_line(sink, b"fault", u64::from(fault.number()))?;
-    put_number_line(sink, b"line", u64::from(fault.line()))
+    put_number_line(sink, b"fault", fault.number())?;
+    put_number_line(sink, b"line", fault.line())
 }
 
 impl Printable for Transcript<'_> {

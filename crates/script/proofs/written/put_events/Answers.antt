@@ -1,11 +1,10 @@
 use Rattle.std.proofs.Common.{get_or, take, subst}
 use Rattle.std.specs.List.{flat_map}
-use Rattle.std.proofs.lemmas.List.{take_all}
 use Rattle.std.proofs.lemmas.Result.{err_from_is_err_and}
 use Rattle.book.specs.declared.call.Call.TheVariants.{Lock}
 use Rattle.book.specs.declared.call.Event.{Event}
 use Rattle.print.specs.Printed.{Prints}
-use Rattle.print.proofs.Appending.{prints_more, short}
+use Rattle.print.proofs.Appending.{prints_more}
 use Rattle.print.proofs.Joining.{joined_next, joined_short}
 use Rattle.script.specs.Written.{event_text}
 use Rattle.script.proofs.written.put_events.Goals as goal
@@ -19,8 +18,7 @@ returns-in_err-put_event g c =
     let p = err_from_is_err_and c.from_residual.result c.from_residual.ensures.1 in
     let page = g.S.Sink.page in
     let xs = c.args.events.now in
-    short (page c.args.sink.now) _ (flat_map event_text xs) c.from_residual.result _ p.1
-    (joined_short (page c.args.sink.now) (page c.loop-event.sink) event_text xs c.loop-event.event-index unread c.loop-event-test.true c.loop-event.invariant c.in_err-put_event.ensures)
+    rw p.1 (joined_short (page c.args.sink.now) (page c.loop-event.sink) event_text xs c.loop-event.event-index unread c.loop-event-test.true c.loop-event.invariant c.in_err-put_event.ensures)
 
 pub loop-event-preserved : goal.loop-event-preserved
 loop-event-preserved g c =
@@ -29,8 +27,3 @@ loop-event-preserved g c =
     let i = c.loop-event.event-index in
     subst (λ l. Prints (page c.args.sink.now) l (page c.put_event.new.sink)) (joined_next event_text xs i unread c.loop-event-test.true)
     (prints_more (page c.args.sink.now) (page c.loop-event.sink) (page c.put_event.new.sink) (flat_map event_text (take i xs)) (event_text (get_or xs i unread)) c.loop-event.invariant c.in_ok-put_event.ensures)
-
-pub returns : goal.returns
-returns g c =
-    let xs = c.args.events.now in
-    subst (λ l. Prints (g.S.Sink.page c.args.sink.now) (flat_map event_text l) (g.S.Sink.page c.loop-event.sink)) (take_all c.loop-event.event-index xs c.loop-event-test.false) c.loop-event.invariant

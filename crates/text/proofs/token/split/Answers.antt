@@ -1,20 +1,15 @@
-use Rattle.std.proofs.Common.{◌≡◌, false, sym, ◌∙◌, arith}
-use Rattle.std.proofs.lemmas.List.{take_rest, drop_all}
+use Rattle.std.proofs.Common.{◌≡◌, false, sym, ◌∙◌}
 use Rattle.text.specs.Cuts.{has}
-use Rattle.text.proofs.Cutting.{front_at, tail_at, has_not, before_all, after_all}
+use Rattle.text.proofs.Cutting.{found, missing, before_all, after_all}
 use Rattle.text.proofs.token.split.Goals as goal
 
-pub returns-then-sign-row : goal.returns-then-sign-row
-returns-then-sign-row c = record {
-  key = front_at 61 c.args.row.now _ (omega (arith, c.find-sign.ensures.value));
-  value = tail_at 61 c.args.row.now _ (omega (arith, c.find-sign.ensures.value));
-}
-
-pub returns-else-sign-row : goal.returns-else-sign-row
-returns-else-sign-row c =
+pub returns-in_default : goal.returns-in_default
+returns-in_default c =
     let row = c.args.row.now in
-    let none : has 61 row ≡ false = has_not 61 row (omega (arith, c.find-sign.ensures.value)) in
-    record {
-      key = sym (before_all 61 row none);
-      value = take_rest row c.find-sign.result ∙ drop_all c.find-sign.result row (omega arith) ∙ sym (after_all 61 row none);
-    }
+    let none : has 61 row ≡ false = missing 61 row (sym c.find.ensures ∙ c.in_default.is) in
+    record { key = sym (before_all 61 row none); value = sym (after_all 61 row none) }
+
+pub returns : goal.returns
+returns c =
+    let cut = found 61 c.args.row.now c.in-Some.sign (sym c.find.ensures ∙ c.in-Some.is) in
+    record { key = cut.front; value = cut.back }

@@ -1,11 +1,10 @@
 use Rattle.std.proofs.Common.{◌++◌, length, take, Ok, codes, decimal, ap, ◌∙◌, subst, arith}
 use Rattle.std.specs.List.{flat_map}
-use Rattle.std.proofs.lemmas.List.{take_all}
 use Rattle.std.proofs.lemmas.Result.{err_from_is_err_and}
 use Rattle.lock.specs.declared.answer.Answer.TheVariants.{Done}
 use Rattle.text.specs.Lines.{line_text}
 use Rattle.print.specs.Printed.{Prints}
-use Rattle.print.proofs.Appending.{prints_more, short}
+use Rattle.print.proofs.Appending.{prints_more}
 use Rattle.print.proofs.Joining.{joined_next, joined_short}
 use Rattle.transcript.specs.Transcribed.{answer_text}
 use Rattle.transcript.proofs.answers.put_answers.Goals as goal
@@ -14,10 +13,8 @@ pub returns-in_err-put_number_line : goal.returns-in_err-put_number_line
 returns-in_err-put_number_line g c =
     let p = err_from_is_err_and c.from_residual.result c.from_residual.ensures.1 in
     let page = g.S.Sink.page in
-    let xs = c.args.answers.now in
-    let same = ap (λ n. length (line_text (codes "answer") (decimal n))) (c.from.ensures ∙ c.outcome_number.ensures) in
-    short (page c.args.sink.now) _ (flat_map answer_text xs) c.from_residual.result _ p.1
-    (joined_short (page c.args.sink.now) (page c.loop-answer.sink) answer_text xs c.loop-answer.answer-index (Ok Done) c.loop-answer-test.true c.loop-answer.invariant (omega (arith, c.in_err-put_number_line.ensures, same)))
+    let same = ap (λ n. length (line_text (codes "answer") (decimal n))) c.outcome_number.ensures in
+    rw p.1 (joined_short (page c.args.sink.now) (page c.loop-answer.sink) answer_text c.args.answers.now c.loop-answer.answer-index (Ok Done) c.loop-answer-test.true c.loop-answer.invariant (omega (arith, c.in_err-put_number_line.ensures, same)))
 
 pub loop-answer-preserved : goal.loop-answer-preserved
 loop-answer-preserved g c =
@@ -25,12 +22,7 @@ loop-answer-preserved g c =
     let xs = c.args.answers.now in
     let i = c.loop-answer.answer-index in
     let done = flat_map answer_text (take i xs) in
-    let here = line_text (codes "answer") (decimal c.from.result) in
-    let next = ap (λ n. done ++ line_text (codes "answer") (decimal n)) (c.from.ensures ∙ c.outcome_number.ensures) ∙ joined_next answer_text xs i _ c.loop-answer-test.true in
+    let here = line_text (codes "answer") (decimal c.outcome_number.result) in
+    let next = ap (λ n. done ++ line_text (codes "answer") (decimal n)) c.outcome_number.ensures ∙ joined_next answer_text xs i _ c.loop-answer-test.true in
     subst (λ l. Prints (page c.args.sink.now) l (page c.put_number_line.new.sink)) next
     (prints_more (page c.args.sink.now) (page c.loop-answer.sink) (page c.put_number_line.new.sink) done here c.loop-answer.invariant c.in_ok-put_number_line.ensures)
-
-pub returns : goal.returns
-returns g c =
-    let xs = c.args.answers.now in
-    subst (λ l. Prints (g.S.Sink.page c.args.sink.now) (flat_map answer_text l) (g.S.Sink.page c.loop-answer.sink)) (take_all c.loop-answer.answer-index xs c.loop-answer-test.false) c.loop-answer.invariant

@@ -1,6 +1,0 @@
-use Rattle.std.proofs.Common.{◌≡◌, ◌+◌, length, drop}
-use Rattle.text.specs.Cuts.{before}
-use Rattle.text.proofs.token.find.Given as goal
-
-abbrev pub invariant-loop-i : goal.invariant-loop-i
-invariant-loop-i l = l.i + length (before l.b (drop l.i l.bytes)) ≡ length (before l.b l.bytes)
