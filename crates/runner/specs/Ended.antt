@@ -35,8 +35,8 @@ pub record Ended {S : Type 0} (lock : Ghosts S) (es : List Event) (rs : List (Re
 
 -- over a lock of the kind, whose bound is that of its algorithm
 abbrev pub EndedBy : Kind → List Event → List (Result Answer Refusal) → Ending → Type 0
-EndedBy Tas = Ended (lock_of tas.ghosts)
-EndedBy Ticket = Ended (lock_of ticket.ghosts)
-EndedBy Array = Ended (lock_of array.ghosts)
-EndedBy Mcs = Ended (lock_of mcs.ghosts)
-EndedBy Clh = Ended (lock_of clh.ghosts)
+EndedBy Tas es rs e = Ended (lock_of tas.ghosts) es rs e
+EndedBy Ticket es rs e = Ended (lock_of ticket.ghosts) es rs e
+EndedBy Array es rs e = Ended (lock_of array.ghosts) es rs e
+EndedBy Mcs es rs e = Ended (lock_of mcs.ghosts) es rs e
+EndedBy Clh es rs e = Ended (lock_of clh.ghosts) es rs e

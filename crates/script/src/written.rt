@@ -10,7 +10,7 @@ use list::Memory;
 use print::{Printable, Sink, put_line, put_number_line, write};
 
 // A kind of lock, and the events to run on a book over it.
-#[derive(Clone, Copy)]
+#[derive(Clone, Copy, Debug, PartialEq, Eq)]
 pub struct Schedule<'a> {
     pub kind: Kind,
     pub events: &'a [Event],

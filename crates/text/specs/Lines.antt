@@ -1,5 +1,5 @@
 -- The lines of a text, each ended by byte 10; byte 61 ends a key.
-use Rattle.std.specs.Prelude.{ℕ, cond, List, [], ◌∷◌, ◌++◌, ◌==◌}
+use Rattle.std.specs.Prelude.{ℕ, if◌then◌else◌, List, [], ◌∷◌, ◌++◌, ◌==◌}
 use Rattle.text.specs.Cuts.{before, after}
 
 -- a line as its key and its value, or one that the text's end cuts
@@ -11,7 +11,7 @@ pub data Line : Type 0 where
 abbrev pub lines_after : List ℕ → List ℕ → List Line
 lines_after [] [] = []
 lines_after (b ∷ so) [] = cut ∷ []
-lines_after so (x ∷ xs) = cond (x == 10) (whole (before 61 so) (after 61 so) ∷ lines_after [] xs) (lines_after (so ++ x ∷ []) xs)
+lines_after so (x ∷ xs) = if x == 10 then whole (before 61 so) (after 61 so) ∷ lines_after [] xs else lines_after (so ++ x ∷ []) xs
 
 unfoldable pub lines : List ℕ → List Line
 lines bytes = lines_after [] bytes

@@ -17,7 +17,7 @@ pub struct Refused {
 }
 
 // An answer for each event, and how the run ended.
-#[derive(Clone, Copy, PartialEq, Eq)]
+#[derive(Clone, Copy, Debug, PartialEq, Eq)]
 pub struct Transcript<'a> {
     pub answers: &'a [Result<Answer, Refusal>],
     pub ending: Ending,
