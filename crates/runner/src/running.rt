@@ -1,6 +1,6 @@
-ghost use Rattle.std.specs.Prelude.{◌≡◌, ℕ, ◌&&◌, length, drop, is_ok, MatchResult, nat_le, nat_lt};
+ghost use Rattle.std.specs.Prelude.{◌≡◌, ℕ, ◌&&◌, length, is_ok, MatchResult, nat_le, nat_lt};
 ghost use Rattle.list.specs.declared.memory.Memory.TheVariants.{TooShort};
-ghost use Rattle.list.specs.Held.{list_len, list_room, list_memory, list_items, lender};
+ghost use Rattle.list.specs.Held.{KeepsRest, list_room, list_items};
 ghost use Rattle.lock.specs.Rules.{place_at};
 ghost use Rattle.lock.specs.Distance.{is_inside as inside};
 ghost use Rattle.runner.specs.Ended.{IsInside, Ended, EndedBy};
@@ -20,22 +20,14 @@ use transcript::Ending;
 fn is_inside<L: Lock>(book: &Book<L>, w: u8) -> bool
     ensures { result ≡ (nat_lt w 16 && inside (place_at (L.places book.now.lock) w)) }
 {
-    match book.place(w) {
-        Ok(place) => matches!(place, Place::Inside),
-        Err(_) => false,
-    }
+    matches!(book.place(w), Ok(Place::Inside))
 }
 
 // Who is inside.
 fn inside_of<L: Lock>(book: &Book<L>) -> Option<u8>
     ensures { IsInside result (place_at (L.places book.now.lock)) }
 {
-    for w in 0..16u8 {
-        if is_inside(book, w) {
-            return Some(w);
-        }
-    }
-    None
+    (0..16u8).find(|w| is_inside(book, *w))
 }
 
 // Runs the events over a lock of one kind, and hands on how the book ended.
@@ -47,8 +39,7 @@ pub fn run_over<L: Lock + Drop>(
     ensures cases { MatchResult result
         (λ e. ∥ Ended L.Lock events.now (list_items answers.new) e ∥₁)
         (λ e. (e ≡ TooShort) × (answers.new ≡ answers.old)) }
-    ensures memory { drop (list_len answers.new) (list_memory answers.new) ≡ drop (list_len answers.new) (list_memory answers.old) }
-    ensures same { lender answers.new ≡ lender answers.old }
+    ensures rest { KeepsRest answers.old answers.new }
 {
     let book = run::<L>(events, answers)?;
     let inside = inside_of(&book);
@@ -71,8 +62,7 @@ pub fn run_schedule(
     ensures cases { MatchResult result
         (λ e. ∥ EndedBy kind events.now (list_items answers.new) e ∥₁)
         (λ e. (e ≡ TooShort) × (answers.new ≡ answers.old)) }
-    ensures memory { drop (list_len answers.new) (list_memory answers.new) ≡ drop (list_len answers.new) (list_memory answers.old) }
-    ensures same { lender answers.new ≡ lender answers.old }
+    ensures rest { KeepsRest answers.old answers.new }
 {
     match kind {
         Kind::Tas => run_over::<Tas>(events, answers),

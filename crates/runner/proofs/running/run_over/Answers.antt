@@ -9,6 +9,5 @@ returns g c =
     record {
       value = r.value;
       cases = ∥∥₁_map r.cases (ended g.L.Lock _ _ c.in_ok-book.book _ c.inside_of-inside.ensures (ap length c.records-chests.ensures) c.weight-grams.ensures);
-      memory = r.rest.memory;
-      same = r.rest.same;
+      rest = r.rest;
     }
