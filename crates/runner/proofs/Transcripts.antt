@@ -1,6 +1,9 @@
 -- What is written is the transcript of the text.
-use Rattle.std.proofs.Common.{◌≡◌, ℕ, List, Ok, Err, Result, sym, refl, ap, subst, inl, inr}
+use Rattle.std.proofs.Common.{◌≡◌, ℕ, ◌≤◌, Bool, true, false, cond, leb, List, ◌++◌, length, drop, Ok, Err, Result, IfOk, sym, refl, ap, subst, inl, inr, arith, length-append}
+use mathlib.Core.Logic.{∥∥₁_elim}
+use native.Mathlib.Bridge.{le_prop}
 use Rattle.list.specs.declared.memory.Memory.{Memory}
+use Rattle.list.specs.declared.memory.Memory.TheVariants.{TooShort}
 use Rattle.lock.specs.declared.answer.Answer.{Answer}
 use Rattle.lock.specs.declared.refusal.Refusal.{Refusal}
 use Rattle.book.specs.declared.call.Event.{Event}
@@ -38,3 +41,12 @@ module _ (r : Result ℕ Memory) (before after : List ℕ) where
     value = value;
     memory = memory;
   }
+
+written_within : (n : ℕ) (bytes before after : List ℕ) (b : Bool) → Ok n ≡ cond {A = Result ℕ Memory} b (Ok (length bytes)) (Err TooShort) → after ≡ cond b (bytes ++ drop (length bytes) before) before → n ≤ length after
+written_within n bytes before after true e m = let k : n ≡ length bytes = cc in omega (arith, k, ap length m, length-append bytes (drop (length bytes) before))
+written_within n bytes before after false e m = let z : ◌≡◌ {A = ℕ} 0 1 = cc in absurd (omega arith)
+
+-- the length that is answered is within the memory
+pub fits : (P : List ℕ → Type 0) (r : Result ℕ Memory) (before after : List ℕ) → ∥ Wrote P r before after ∥₁ → IfOk r (λ n. n ≤ length after)
+fits P (Ok n) before after w = ∥∥₁_elim w le_prop (λ x. written_within n x.bytes before after (leb (length x.bytes) (length before)) x.value x.memory)
+fits P (Err e) before after w = tt

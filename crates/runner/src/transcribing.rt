@@ -1,4 +1,4 @@
-ghost use Rattle.std.specs.Prelude.{◌≤◌, length};
+ghost use Rattle.std.specs.Prelude.{◌≤◌, length, IfOk};
 ghost use Rattle.runner.specs.Transcribed.{Performed, Transcribes, Wrote};
 
 use crate::run_schedule;
@@ -25,7 +25,8 @@ fn perform(kind: Kind, events: &[Event], memory: &mut [u8]) -> Result<usize, Mem
 
 // Writes the transcript of a text at the front of the memory, and answers its length: any bytes have one.
 pub fn transcribe(text: &[u8], memory: &mut [u8]) -> Result<usize, Memory>
-    ensures { ∥ Wrote (Transcribes text.now) result memory.old memory.new ∥₁ }
+    ensures wrote { ∥ Wrote (Transcribes text.now) result memory.old memory.new ∥₁ }
+    ensures fits { IfOk result (λ n. n ≤ length memory.new) }
 {
     let mut room = [Event {
         worker: 0,

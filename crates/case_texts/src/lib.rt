@@ -1,0 +1,44 @@
+// Many texts in one file, each ended by a percent sign and a newline.
+#![tactic(auto)]
+
+ghost use Rattle.std.specs.Prelude.{◌≡◌, length};
+ghost use Rattle.std.specs.Iterator.{at_most};
+ghost use Rattle.case_texts.specs.Texts.{NextText, sign_of};
+
+// The texts of which the end was found; what comes after the last end is no text.
+#[derive(Drop)]
+pub struct Texts<'a> {
+    left: &'a [u8],
+}
+
+// Where the first percent sign stands.
+fn sign(bytes: &[u8]) -> Option<usize>
+    ensures { result ≡ sign_of bytes.now }
+{
+    bytes.iter().position(|byte| *byte == b'%')
+}
+
+impl<'a> Texts<'a> {
+    pub fn new(all: &'a [u8]) -> Texts<'a>
+        ensures { result.left.now ≡ all.now }
+    {
+        Texts { left: all }
+    }
+}
+
+impl<'a> Iterator for Texts<'a> {
+    type Item = &'a [u8];
+
+    ghost next_gives = { λ s r t. NextText s.left.now r t.left.now };
+
+    ghost remaining = { λ s. at_most (length s.left.now) };
+
+    fn next(&mut self) -> Option<&'a [u8]> {
+        let Some(end) = sign(self.left) else {
+            return None;
+        };
+        let text = &self.left[..end];
+        self.left = self.left.get(end + 2..).unwrap_or(&[]);
+        Some(text)
+    }
+}
