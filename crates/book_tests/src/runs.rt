@@ -128,7 +128,7 @@ fn closing(rt: HostRuntime) {
     assert_eq!(rt; book.due(), None);
     assert_eq!(rt; outcome_number(book.lock(4)), 0);
     assert_eq!(rt; book.due(), Some((4, 1)));
-    assert!(rt; matches!(book.place(4), Ok(Place::Waiting)));
+    assert_eq!(rt; book.place(4), Ok(Place::Waiting));
     assert_eq!(rt; outcome_number(book.step(4)), 20);
     assert_eq!(rt; outcome_number(book.look(4, 9, 30)), 0);
     assert_eq!(rt; outcome_number(book.enter(4)), 0);

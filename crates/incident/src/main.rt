@@ -3,8 +3,7 @@
 // again. The unlock is refused with 4, nobody gets in between, and the chest enters stock once.
 #![tactic(auto)]
 
-use anyhow::anyhow;
-use book::{Book, Call, Closed, Event, run};
+use book::{Book, Call, Closed, Event, Record, run};
 use list::List;
 use lock::{Answer, Lock, Refusal, outcome_number};
 use std::io;
@@ -13,6 +12,11 @@ use tas::Tas;
 const CHEST: Call = Call::Look {
     chest: 118,
     grams: 52_000,
+};
+
+const ANOTHER: Call = Call::Look {
+    chest: 119,
+    grams: 48_000,
 };
 
 // What each worker does, in the order in which the executive lets them.
@@ -31,21 +35,16 @@ const SCRIPT: [(u8, Call); 19] = [
     (7, CHEST),
     (7, Call::Enter),
     (9, Call::Unlock),
-    (
-        7,
-        Call::Look {
-            chest: 119,
-            grams: 48_000,
-        },
-    ),
+    (7, ANOTHER),
     (7, Call::Enter),
     (7, Call::Unlock),
     (7, Call::Enter),
     (7, Call::Step),
 ];
 
-fn print_call(rt: &HostRuntime, worker: u8, call: Call) -> io::Result<()> {
-    match call {
+fn print_call(rt: &HostRuntime, event: Event) -> io::Result<()> {
+    let worker = event.worker;
+    match event.call {
         Call::Lock => print!(rt; "worker {worker} lock: "),
         Call::Unlock => print!(rt; "worker {worker} unlock: "),
         Call::Step => print!(rt; "worker {worker} step: "),
@@ -79,22 +78,15 @@ fn print_places<L: Lock>(rt: &HostRuntime, book: &Book<L>) -> io::Result<()> {
 
 // The same calls as one list of events.
 fn events() -> [Event; 19] {
-    let mut events = [Event {
-        worker: 0,
-        call: Call::Lock,
-    }; 19];
-    for (event, (worker, call)) in events.iter_mut().zip(SCRIPT) {
-        *event = Event { worker, call };
-    }
-    events
+    SCRIPT.map(|(worker, call)| Event { worker, call })
 }
 
 // Makes the calls one by one, and prints each with its answer.
 fn step_by_step(rt: &HostRuntime) -> io::Result<()> {
     let mut book: Book<Tas> = Book::new();
-    for (worker, call) in SCRIPT {
-        let outcome = book.call(Event { worker, call });
-        print_call(rt, worker, call)?;
+    for event in events() {
+        let outcome = book.call(event);
+        print_call(rt, event)?;
         print_outcome(rt, outcome)?;
         print_places(rt, &book)?;
     }
@@ -105,9 +97,7 @@ fn step_by_step(rt: &HostRuntime) -> io::Result<()> {
 fn whole_run(rt: &HostRuntime) -> anyhow::Result<()> {
     let mut memory = [Ok(Answer::Done); 19];
     let mut answers = List::new(&mut memory);
-    let Ok(book) = run::<Tas>(&events(), &mut answers) else {
-        return Err(anyhow!("the answers do not fit"));
-    };
+    let book = run::<Tas>(&events(), &mut answers)?;
     print!(rt; "answers of the run:")?;
     for outcome in answers.as_slice() {
         let number = outcome_number(*outcome);
@@ -120,8 +110,7 @@ fn whole_run(rt: &HostRuntime) -> anyhow::Result<()> {
 
 fn print_stock(rt: &HostRuntime, book: Closed) -> io::Result<()> {
     for record in book.records() {
-        let chest = record.chest;
-        let grams = record.grams;
+        let Record { chest, grams } = *record;
         println!(rt; "record: chest {chest}, {grams} g")?;
     }
     let weight = book.weight();

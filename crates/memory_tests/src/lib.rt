@@ -4,7 +4,7 @@
 #[cfg(test)]
 mod tests {
     use book::{Call, Event};
-    use list::List;
+    use list::{List, Memory};
     use lock::Answer;
     use runner::run_schedule;
     use script::{Kind, Schedule, read_schedule, round_trip};
@@ -26,12 +26,9 @@ mod tests {
     fn full_list(rt: HostRuntime) -> Result<(), Fail> {
         let mut memory = [7u8; 2];
         let mut list = List::new(&mut memory);
-        assert!(rt; list.push(1).is_ok());
-        assert!(rt; list.push(2).is_ok());
-        let Err(refusal) = list.push(3) else {
-            return Err(Fail::new("a full list takes no more"));
-        };
-        assert_eq!(rt; refusal.number(), 16);
+        list.push(1)?;
+        list.push(2)?;
+        assert_eq!(rt; list.push(3).err().map(Memory::number), Some(16));
         assert_eq!(rt; list.len(), 2);
         assert!(rt; memory == [1, 2]);
         Ok(())
@@ -42,14 +39,12 @@ mod tests {
     fn short_events(rt: HostRuntime) -> Result<(), Fail> {
         let mut memory = [STEP; 2];
         let mut events = List::new(&mut memory);
-        assert!(rt; events.push(STEP).is_ok());
-        let Err(fault) = read_schedule(THREE, &mut events) else {
-            return Err(Fail::new("three events have no room in two places"));
-        };
-        assert_eq!(rt; fault.number(), 13);
-        assert_eq!(rt; fault.line(), 6);
+        events.push(STEP)?;
+        let fault = read_schedule(THREE, &mut events).err();
+        assert_eq!(rt; fault.map(Fault::number), Some(13));
+        assert_eq!(rt; fault.map(Fault::line), Some(6));
         assert_eq!(rt; events.len(), 1);
-        assert!(rt; matches!(read_schedule(TWO, &mut events), Ok(Kind::Mcs)));
+        assert_eq!(rt; read_schedule(TWO, &mut events)?, Kind::Mcs);
         assert_eq!(rt; events.len(), 2);
         Ok(())
     }
@@ -58,12 +53,10 @@ mod tests {
     fn short_answers(rt: HostRuntime) -> Result<(), Fail> {
         let mut memory = [Ok(Answer::Found); 1];
         let mut answers = List::new(&mut memory);
-        let Err(refusal) = run_schedule(Kind::Clh, &[STEP, STEP], &mut answers) else {
-            return Err(Fail::new("two answers have no room in one place"));
-        };
-        assert_eq!(rt; refusal.number(), 16);
+        let refusal = run_schedule(Kind::Clh, &[STEP, STEP], &mut answers).err();
+        assert_eq!(rt; refusal.map(Memory::number), Some(16));
         assert_eq!(rt; answers.len(), 0);
-        assert!(rt; run_schedule(Kind::Clh, &[STEP], &mut answers).is_ok());
+        run_schedule(Kind::Clh, &[STEP], &mut answers)?;
         assert_eq!(rt; answers.len(), 1);
         Ok(())
     }
@@ -72,12 +65,10 @@ mod tests {
     fn short_fault(rt: HostRuntime) -> Result<(), Fail> {
         let mut memory = [b'-'; 16];
         let fault = Fault::Key { line: 3 };
-        let Err(refusal) = write_fault(fault, &mut memory[0..15]) else {
-            return Err(Fail::new("sixteen bytes have no room in fifteen"));
-        };
-        assert_eq!(rt; refusal.number(), 16);
+        let refusal = write_fault(fault, &mut memory[..15]).err();
+        assert_eq!(rt; refusal.map(Memory::number), Some(16));
         assert!(rt; memory == [b'-'; 16]);
-        assert!(rt; matches!(write_fault(fault, &mut memory), Ok(16)));
+        assert_eq!(rt; write_fault(fault, &mut memory)?, 16);
         assert!(rt; &memory == b"fault=11\nline=3\n");
         Ok(())
     }
@@ -93,12 +84,10 @@ mod tests {
                 grams: 0,
             },
         };
-        let Err(refusal) = write_transcript(&transcript, &mut memory[0..44]) else {
-            return Err(Fail::new("forty-five bytes have no room in forty-four"));
-        };
-        assert_eq!(rt; refusal.number(), 16);
+        let refusal = write_transcript(&transcript, &mut memory[..44]).err();
+        assert_eq!(rt; refusal.map(Memory::number), Some(16));
         assert!(rt; memory == [b'-'; 48]);
-        assert!(rt; matches!(write_transcript(&transcript, &mut memory), Ok(45)));
+        assert_eq!(rt; write_transcript(&transcript, &mut memory)?, 45);
         assert!(rt; &memory == b"answer=20\ninside=9\nmisuse=0\nchests=0\ngrams=0\n---");
         Ok(())
     }
@@ -113,10 +102,8 @@ mod tests {
         let mut memory = [0u8; 64];
         let mut room = [STEP; 2];
         let mut list = List::new(&mut room);
-        let Ok(read) = round_trip(&schedule, &mut memory, &mut list) else {
-            return Err(Fail::new("the text has room"));
-        };
-        assert!(rt; matches!(read, Ok(Kind::Array)));
+        let kind = round_trip(&schedule, &mut memory, &mut list)??;
+        assert_eq!(rt; kind, Kind::Array);
         assert_eq!(rt; list.len(), 2);
         Ok(())
     }
