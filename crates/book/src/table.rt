@@ -3,7 +3,7 @@ ghost use Rattle.std.specs.Prelude.{◌≡◌, ◌<◌, ◌≤◌, Some};
 ghost use Rattle.lock.specs.declared.place.Place.TheVariants.{Inside};
 ghost use Rattle.book.specs.Stock.{new_table, records_of, holds, slip_at, with_slip, slip_now, found_answer, entered, Safe};
 
-use lock::{Answer, Refusal};
+use lock::{Answer, Refusal, item_or, put_item};
 
 // A chest in stock.
 #[derive(Clone, Copy, Debug, PartialEq, Eq)]
@@ -64,17 +64,13 @@ impl Table {
     fn slip(&self, w: u8) -> Option<Slip>
         ensures { result ≡ slip_at self.now w }
     {
-        *self.slips.get(usize::from(w))?
+        item_or(&self.slips, w, None)
     }
 
-    // Writes the worker's slip. By index, since a slice's `get_mut` says nothing of the elements after it.
     pub(crate) fn put(&mut self, w: u8, slip: Option<Slip>)
         ensures { self.new ≡ with_slip self.old w slip }
     {
-        let i = usize::from(w);
-        if i < self.slips.len() {
-            self.slips[i] = slip;
-        }
+        put_item(&mut self.slips, w, slip);
     }
 
     // Writes the worker's slip anew.

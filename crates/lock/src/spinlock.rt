@@ -1,4 +1,4 @@
-// A lock of any algorithm: the calls, and when each is refused.
+// A lock of any algorithm: the calls, and when each is refused. `keeps_rules` does nothing; the proof of a call reads its contract.
 ghost use Rattle.std.specs.Prelude.{◌≡◌, replicate};
 ghost use Rattle.lock.specs.Rules.{Obeys, Sound, locking, unlocking, stepping, place_answer};
 ghost use Rattle.lock.specs.declared.place.Place.TheVariants.{Out};
