@@ -22,6 +22,7 @@ impl<L: Lock + Drop> Book<L> {
     }
 }
 
+// The same readings as of an open book, which is another type so that nothing else can be done with a closed one.
 impl Closed {
     // The records in the order of their entry.
     pub fn records(&self) -> &[Record]

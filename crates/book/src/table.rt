@@ -21,6 +21,7 @@ pub struct Slip {
     pub weight: u32,
 }
 
+// Plain fields, and no memory of its own making, since there is no heap.
 #[derive(Drop)]
 pub struct Table {
     pub records: [Record; 256],

@@ -97,6 +97,7 @@ impl Words {
         self.node(self.worker(w).own).prev
     }
 
+    // One function a field: a closure that changes it would be longer.
     #[tactic(auto, using(rows::proofs::Lending::with_past))]
     fn set_wait(&mut self, n: u8, wait: bool)
         ensures { self.new ≡ set_wait self.old n wait }

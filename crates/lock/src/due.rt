@@ -17,7 +17,8 @@ fn nearer(best: Option<(u8, u32)>, v: u8, distance: Option<u32>) -> Option<(u8, 
     }
 }
 
-// Who is due and how far off: nobody where somebody is inside or nobody waits.
+// Who is due and how far off: nobody where somebody is inside or nobody waits. One loop asks each worker for both its
+// place and its distance.
 pub(crate) fn due_over<A: Algorithm>(words: &A) -> Option<(u8, u32)>
     ensures { result ≡ due_of (A.place_of words.now) (A.distance_of words.now) }
 {

@@ -89,6 +89,7 @@ impl Words {
         item_or(&self.nodes.items, w, BLANK)
     }
 
+    // One function a field: a closure that changes it would be longer.
     #[tactic(auto, using(rows::proofs::Lending::with_past))]
     fn set_next(&mut self, w: u8, next: Option<u8>)
         ensures { self.new ≡ set_next self.old w next }

@@ -52,7 +52,7 @@ pub fn run_over<L: Lock + Drop>(
     })
 }
 
-// Runs the events over a lock of the kind. The law of a book's life holds at that kind and its bound.
+// Runs the events over a lock of the kind, each another type. The law of a book's life holds at that kind and its bound.
 pub fn run_schedule(
     kind: Kind,
     events: &[Event],

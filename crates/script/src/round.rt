@@ -9,7 +9,8 @@ use book::Event;
 use list::{List, Memory};
 use text::Fault;
 
-// Writes a schedule into the memory and reads it from there. Within the limits it comes back as it was.
+// Writes a schedule into the memory and reads it from there. Within the limits it comes back as it was. The outer result says
+// whether the text had room, the inner one what reading it gave.
 pub fn round_trip(
     schedule: &Schedule,
     memory: &mut [u8],

@@ -5,7 +5,7 @@ ghost use Rattle.text.specs.Ahead.{Handed, Opened, ahead, line_number};
 use crate::{MOST_BYTES, Reader};
 
 // A line of the text as its key and its value, both parts of the text; a line that the text's end
-// cuts; or that end. `line` is its number.
+// cuts; or that end. `line` is its number. Three ways, so no `Option` and no `Result`.
 #[derive(Clone, Copy, Debug, PartialEq, Eq)]
 pub enum Token<'a> {
     Line {
