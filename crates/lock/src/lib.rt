@@ -14,6 +14,7 @@ mod spinlock;
 
 pub use algorithm::Algorithm;
 pub use answer::{Answer, outcome_number};
+pub use due::{Distances, due_over};
 pub use interface::{Lock, index_of};
 pub use items::{item_or, put_item};
 pub use place::Place;

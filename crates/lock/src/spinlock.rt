@@ -1,12 +1,12 @@
-// A lock of any algorithm: the calls, and when each is refused. `keeps_rules` does nothing; the proof of a call reads its contract.
+// A lock of any algorithm: the calls, and when each is refused. Each call that changes something begins with `keeps_rules`, which does
+// nothing when it runs: its contract gives the proof the laws of the algorithm.
 ghost use Rattle.std.specs.Prelude.{◌≡◌, replicate};
-ghost use Rattle.lock.specs.Rules.{Obeys, Sound, locking, unlocking, stepping, place_answer};
+ghost use Rattle.lock.specs.Rules.{Sound, locking, unlocking, stepping, place_answer};
 ghost use Rattle.lock.specs.declared.place.Place.TheVariants.{Out};
 ghost use Rattle.lock.specs.Algorithms.{places, pair, locked, unlocked, stepped};
 ghost use Rattle.lock.specs.Single.{sound_prop};
 
-use crate::due::due_over;
-use crate::{Answer, Lock, Place, Refusal, Ruled, index_of};
+use crate::{Answer, Distances, Lock, Place, Refusal, Ruled, due_over, index_of};
 
 // The words of the algorithm, with what holds of them at every moment.
 #[derive(Drop)]
@@ -16,7 +16,23 @@ pub struct Spinlock<A: Ruled> {
     ghost sound: { Sound A.BOUND (places A.Algorithm words) (pair A.Algorithm words) } by { sound_prop _ _ _ },
 }
 
+impl<A: Ruled> Distances for Spinlock<A> {
+    ghost stands = { λ s. A.place_of s.words };
+
+    ghost distances = { λ s. A.distance_of s.words };
+
+    fn place_of(&self, w: u8) -> Place {
+        self.words.place_of(w)
+    }
+
+    fn distance_of(&self, w: u8) -> Option<u32> {
+        self.words.distance_of(w)
+    }
+}
+
 impl<A: Ruled> Lock for Spinlock<A> {
+    ghost use Rattle.lock.specs.Spinlocks.{ObeysRules};
+
     const BOUND: u32 = A::BOUND;
 
     ghost BOUND = { A.BOUND };
@@ -37,7 +53,7 @@ impl<A: Ruled> Lock for Spinlock<A> {
 
     fn lock(&mut self, w: u8) -> Result<Answer, Refusal>
         ensures words { (self.new.words, result) ≡ locked A.Algorithm self.old.words w }
-        ensures rules { Obeys (λ s. places A.Algorithm s.words) (λ s. pair A.Algorithm s.words) locking w result self.old self.new }
+        ensures rules { ObeysRules A.Algorithm locking w result self.old self.new }
     {
         A::keeps_rules();
         index_of(w)?;
@@ -53,7 +69,7 @@ impl<A: Ruled> Lock for Spinlock<A> {
 
     fn unlock(&mut self, w: u8) -> Result<Answer, Refusal>
         ensures words { (self.new.words, result) ≡ unlocked A.Algorithm self.old.words w }
-        ensures rules { Obeys (λ s. places A.Algorithm s.words) (λ s. pair A.Algorithm s.words) unlocking w result self.old self.new }
+        ensures rules { ObeysRules A.Algorithm unlocking w result self.old self.new }
     {
         A::keeps_rules();
         index_of(w)?;
@@ -69,7 +85,7 @@ impl<A: Ruled> Lock for Spinlock<A> {
 
     fn step(&mut self, w: u8) -> Result<Answer, Refusal>
         ensures words { (self.new.words, result) ≡ stepped A.Algorithm self.old.words w }
-        ensures rules { Obeys (λ s. places A.Algorithm s.words) (λ s. pair A.Algorithm s.words) stepping w result self.old self.new }
+        ensures rules { ObeysRules A.Algorithm stepping w result self.old self.new }
     {
         A::keeps_rules();
         index_of(w)?;
@@ -84,6 +100,6 @@ impl<A: Ruled> Lock for Spinlock<A> {
     }
 
     fn due(&self) -> Option<(u8, u32)> {
-        due_over(&self.words)
+        due_over(self)
     }
 }

@@ -7,13 +7,13 @@ use Rattle.lock.proofs.due.due_over.Goals.{in-Inside, in-Waiting, in-Out}
 
 pub loop-v-init : goal.loop-v-init
 loop-v-init g c =
-    let f = g.A.Algorithm.place_of c.args.words.now in
+    let f = g.D.Distances.stands c.args.lock.now in
     (sym (anyone_none is_inside f), sym (anyone_none is_waiting f), sym (nearest_none _))
 
 pub loop-v-preserved : goal.loop-v-preserved
 loop-v-preserved g c =
-    let f = g.A.Algorithm.place_of c.args.words.now in
-    let u = g.A.Algorithm.distance_of c.args.words.now in
+    let f = g.D.Distances.stands c.args.lock.now in
+    let u = g.D.Distances.distances c.args.lock.now in
     let v = c.loop-v.v in
     let i = c.loop-v.invariant in
     let flags = flags_more f v c.place_of.result c.place_of.ensures _ _ i.0 i.1 in
