@@ -9,6 +9,7 @@ use Rattle.std.proofs.lemmas.Bool.{ne_eqb, eqb-true, false≢true}
 use Rattle.lock.specs.declared.answer.Answer.TheVariants.{Done}
 use Rattle.lock.specs.Rules.{Request, locking, unlocking, stepping}
 use Rattle.lock.specs.Calls.{Outcome, upd}
+use Rattle.lock.specs.Algorithms.{locked, unlocked, stepped}
 use Rattle.lock.proofs.Small.{all_same}
 use Rattle.lock.proofs.Labelled as labelled
 use Rattle.lock.proofs.Labelled.{read_set}
@@ -22,7 +23,8 @@ use Rattle.array.specs.declared.words.Label.{Label}
 use Rattle.array.specs.declared.words.Label.TheVariants.{Out, W0, W1, W2, Inside, X0}
 use Rattle.array.specs.declared.words.Worker.{Worker}
 use Rattle.array.specs.declared.words.Words.{Words}
-use Rattle.array.specs.Accesses.{new_words, outside, worker, label, number, opened, stage_at, stage, put, access, locked, unlocked, stepped}
+use Rattle.array.specs.contracts.words.WordsAlgorithm.TheImpl as algorithm
+use Rattle.array.specs.Accesses.{new_words, outside, worker, label, number, opened, stage_at, stage, put, access}
 use Rattle.array.specs.Distance.{turn_at, turn}
 use Rattle.array.specs.Facts.{Sixteen, holds, Counted, Holds}
 use Rattle.array.proofs.Keeps.{its_number, first_open, moved, drawn, shuts, handed_on}
@@ -112,16 +114,16 @@ module _ (words : Words) (w : ℕ) (facts : ∥ Holds words ∥₁) where
         (λ o f. subst (λ j. Counted words.next (upd (opened words) ((j + 1) % 16) true) (upd (number words) w None) (upd (stage words) w Away) (handed o)) (its_slot f k (ap in_line (ap stage_at at)) has) (handed_on f w 4 (ap stage_at at))))
         4 (ap stage_at at) (stages (after X0 (Some k)) None Out refl lt)
 
-  pub lock_good : Good locking (locked words w)
+  pub lock_good : Good locking (locked algorithm.ghosts words w)
   lock_good = turnwise.locked kind words facts w (put words w W0) (relabelled W0)
       (λ lt at. relabels W0 lt (λ o f. moved f w Coming (sym (ap in_line at)) (λ a. absurd (false≢true a)) (sym (ap holds at))))
       (λ v ne. ap (λ y. turn_at words.next (opened words) (stage_at y.label) y.number) (get_or-set_other words.workers w v _ outside ne))
 
-  pub unlock_good : Good unlocking (unlocked words w)
+  pub unlock_good : Good unlocking (unlocked algorithm.ghosts words w)
   unlock_good = turnwise.unlocked kind words facts w (put words w X0) 4 (relabelled X0)
       (λ lt at. relabels X0 lt (λ o f. moved f w (Leaving 4) (sym (ap in_line at)) (λ a. f.staged.front w (ap at_front at)) (sym (ap holds at))))
 
-  pub step_good : Good stepping (stepped words w)
+  pub step_good : Good stepping (stepped algorithm.ghosts words w)
   step_good = labelled.looked (turnwise.kind kind) words facts stepping w _ (λ lt. step_at lt (label words w) (number words w) refl refl)
 
 pub new_holds : Holds new_words

@@ -3,7 +3,7 @@ use Rattle.std.specs.Prelude.{ℕ, ◌+◌, ◌%◌, Bool, true, false, if◌the
 use Rattle.lock.specs.declared.place.Place.{Place}
 use Rattle.lock.specs.declared.answer.Answer.TheVariants.{Done, Entered, Left}
 use Rattle.lock.specs.declared.refusal.Refusal.TheVariants.{Idle}
-use Rattle.lock.specs.Calls.{Outcome, known, locks, unlocks}
+use Rattle.lock.specs.Calls.{Outcome}
 use Rattle.queue.specs.declared.stage.Stage.{Stage}
 use Rattle.queue.specs.declared.stage.Stage.TheVariants.{Away, Coming, Queued, Ready, Within, Leaving}
 use Rattle.queue.specs.Stages.{place_of}
@@ -53,11 +53,13 @@ mark s w = is_some (number s w)
 abbrev pub put : Words → ℕ → Label → Words
 put s w l = record { next = s.next; slots = s.slots; workers = slice_set s.workers w (record { number = number s w; label = l }) }
 
-abbrev pub locked : Words → ℕ → Outcome Words
-locked s w = known w s (locks (place s w) s (put s w W0))
+-- after an accepted `lock`
+abbrev pub come : Words → ℕ → Words
+come s w = put s w W0
 
-abbrev pub unlocked : Words → ℕ → Outcome Words
-unlocked s w = known w s (unlocks (place s w) (mark s w) s (put s w X0))
+-- after an accepted `unlock`
+abbrev pub leave : Words → ℕ → Words
+leave s w = put s w X0
 
 -- W0 takes the next slot number, W1 stays until that slot is open, W2 shuts it, X0 opens the slot after
 -- it and gives the number back. From W1 on a worker has a number; without one it would stay.
@@ -72,5 +74,6 @@ access Inside k s w = (s, Err Idle)
 access X0 None s w = (s, Ok Done)
 access X0 (Some k) s w = (record { next = s.next; slots = slice_set s.slots ((k + 1) % 16) true; workers = slice_set s.workers w outside }, Ok Left)
 
-abbrev pub stepped : Words → ℕ → Outcome Words
-stepped s w = known w s (access (label s w) (number s w) s w)
+-- after the access that the worker has before it
+abbrev pub accessed : Words → ℕ → Outcome Words
+accessed s w = access (label s w) (number s w) s w

@@ -1,11 +1,10 @@
 -- How far off each worker is: by its stage, and by whether its slot is open.
 use Rattle.std.specs.Prelude.{ℕ, ◌%◌, Bool, false, Some, None, Option}
-use Rattle.lock.specs.Distance.{due_of}
 use Rattle.queue.specs.declared.stage.Stage.{Stage}
 use Rattle.queue.specs.declared.stage.Stage.TheVariants.{Away, Coming, Queued, Ready, Within, Leaving}
 use Rattle.queue.specs.Stages.{distance_of}
 use Rattle.array.specs.declared.words.Words.{Words}
-use Rattle.array.specs.Accesses.{number, opened, stage, place}
+use Rattle.array.specs.Accesses.{number, opened, stage}
 
 -- its own slot, or that which it would be given
 abbrev pub turn_at : (next : ℕ) (slots : ℕ → Bool) → Stage → Option ℕ → Bool
@@ -22,6 +21,3 @@ turn s w = turn_at s.next (opened s) (stage s w) (number s w)
 
 abbrev pub distance : Words → ℕ → Option ℕ
 distance s w = distance_of (stage s w) (turn s w)
-
-abbrev pub due_pair : Words → Option (ℕ × ℕ)
-due_pair s = due_of (place s) (distance s)

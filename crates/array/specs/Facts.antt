@@ -30,9 +30,9 @@ pub record Counted (next : ℕ) (slots : ℕ → Bool) (numbers : ℕ → Option
   pub shut : (w : ℕ) → holds (stage w) ≡ true → (k : ℕ) → k < 16 → slots k ≡ false
   pub opens : ((w : ℕ) → holds (stage w) ≡ false) → (k : ℕ) → k < 16 → slots k ≡ (o.first % 16 == k)
 
+-- some line is counted so
 abbrev pub Ordered : Words → Type 0
 Ordered s = (o : Line) × Counted s.next (opened s) (number s) (stage s) o
 
--- some line is counted so
 abbrev pub Holds : Words → Type 0
 Holds s = Sixteen s × Ordered s

@@ -1,6 +1,5 @@
 ghost use Rattle.std.specs.Prelude.{◌≡◌};
-ghost use Rattle.array.specs.declared.words.Label.TheVariants.{W0, X0};
-ghost use Rattle.array.specs.Accesses.{new_words, worker, label, number, opened, stage_at, place, mark, put, access};
+ghost use Rattle.array.specs.Accesses.{new_words, worker, label, number, opened, stage_at, place, mark, put, come, leave, accessed};
 ghost use Rattle.array.specs.Distance.{turn_at, distance};
 ghost use Rattle.array.specs.Facts.{Holds};
 
@@ -93,11 +92,11 @@ impl Algorithm for Words {
 
     ghost new = { new_words };
 
-    ghost come = { λ s w. put s w W0 };
+    ghost come = { come };
 
-    ghost leave = { λ s w. put s w X0 };
+    ghost leave = { leave };
 
-    ghost access = { λ s w. access (label s w) (number s w) s w };
+    ghost access = { accessed };
 
     ghost Holds = { Holds };
 

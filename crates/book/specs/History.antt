@@ -1,4 +1,4 @@
--- What a history of calls says of its own: counts, places, slips and records, worked out from the calls and their answers alone.
+-- What a history of calls says by itself: counts, places, slips and records, worked out from the calls and their answers alone.
 use Rattle.std.specs.Prelude.{ℕ, zero, suc, ◌+◌, ◌-◌, Bool, false, if◌then◌else◌, ◌&&◌, List, [], ◌∷◌, ◌++◌, map, reverse, length, is_ok, Some, None, Ok, Err, count_by, Option, Result, ◌==◌, nat_lt}
 use Rattle.lock.specs.declared.place.Place.{Place}
 use Rattle.lock.specs.declared.place.Place.TheVariants.{Out, Waiting, Inside, Leaving}

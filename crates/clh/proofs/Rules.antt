@@ -12,6 +12,7 @@ use Rattle.lock.specs.declared.answer.Answer.TheVariants.{Done, Entered, Left}
 use Rattle.lock.specs.declared.refusal.Refusal.TheVariants.{Idle}
 use Rattle.lock.specs.Rules.{Request, locking, unlocking, stepping, Leads}
 use Rattle.lock.specs.Calls.{Outcome, upd}
+use Rattle.lock.specs.Algorithms.{locked, unlocked, stepped}
 use Rattle.lock.proofs.Pair.{Onward}
 use Rattle.lock.proofs.Small.{never}
 use Rattle.lock.proofs.Labelled as labelled
@@ -25,7 +26,8 @@ use Rattle.clh.specs.declared.words.Label.TheVariants.{Out, W0, W1, W2, W3, Insi
 use Rattle.clh.specs.declared.words.Node.{Node}
 use Rattle.clh.specs.declared.words.Worker.{Worker}
 use Rattle.clh.specs.declared.words.Words.{Words}
-use Rattle.clh.specs.Accesses.{new_words, outside, worker, blank, label, place_of, own, node, put, before, mark, access, locked, unlocked, stepped}
+use Rattle.clh.specs.contracts.words.WordsAlgorithm.TheImpl as algorithm
+use Rattle.clh.specs.Accesses.{new_words, outside, worker, blank, label, place_of, own, node, put, before, mark, access}
 use Rattle.clh.specs.Distance.{distance_at}
 use Rattle.clh.specs.Facts.{Sixteen, queued, ahead, Chain, Stands, Chained, Holds}
 use Rattle.clh.proofs.Keeps.{with_wait, with_prev, standing, longer, shorter, keep_lock, keep_unlock, keep_W0, keep_W1, keep_W2, keep_W3, keep_X0, keep_X1}
@@ -121,16 +123,16 @@ module _ (s : Words) (w : ℕ) (ok : ∥ Holds s ∥₁) where
     step_at (X1 p) at = goes (access (X1 p) s w).0 p Out refl lt stepping Left (X1 p) (with_prev (node s) p None) (upd (own s) w p) at refl refl
         (λ f. read_with s.nodes p _ blank (standing f.1.1 w lt (X1 p) at).kept_in) (λ f. (f.1.0, keep_X1 f.1.1 w lt p at)) (λ f n m z. on_X1 f.1.1 w lt p at)
 
-  pub lock_good : Good locking (locked s w)
+  pub lock_good : Good locking (locked algorithm.ghosts s w)
   lock_good = labelled.locked kind s ok w (put s w W0) W0 (labels (put s w W0) (own s w) W0 refl) refl
       (λ lt at f. holding (put s w W0) (own s w) W0 refl lt (node s) (own s) refl own_stays (f.1.0, keep_lock f.1.1 w lt (out_is (label s w) at)))
       (λ v ne. ap (distance_at s.tail (node s)) (upd_other (label s) w v W0 ne))
 
-  pub unlock_good : Good unlocking (unlocked s w)
+  pub unlock_good : Good unlocking (unlocked algorithm.ghosts s w)
   unlock_good = let l : Label = X0 (unwrap_or (before s w) 0) in labelled.unlocked kind s ok w (put s w l) l (labels (put s w l) (own s w) l refl) refl
       (λ lt at f. holding (put s w l) (own s w) l refl lt (node s) (own s) refl own_stays (f.1.0, keep_unlock f.1.1 w lt (inside_is (label s w) at)))
 
-  pub step_good : Good stepping (stepped s w)
+  pub step_good : Good stepping (stepped algorithm.ghosts s w)
   step_good = labelled.looked kind s ok stepping w _ (λ lt. step_at lt (label s w) refl)
 
 -- nobody has come: the line is empty, and node 16 is spare

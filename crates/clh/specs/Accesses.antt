@@ -6,7 +6,7 @@ use Rattle.lock.specs.declared.place.Place.{Place}
 use Rattle.lock.specs.declared.place.Place.TheVariants as places
 use Rattle.lock.specs.declared.answer.Answer.TheVariants.{Done, Entered, Left}
 use Rattle.lock.specs.declared.refusal.Refusal.TheVariants.{Idle}
-use Rattle.lock.specs.Calls.{Outcome, known, locks, unlocks}
+use Rattle.lock.specs.Calls.{Outcome}
 use Rattle.rows.specs.With.{with}
 use Rattle.clh.specs.declared.words.Label.{Label}
 use Rattle.clh.specs.declared.words.Label.TheVariants.{Out, W0, W1, W2, W3, Inside, X0, X1}
@@ -69,12 +69,13 @@ before s w = (node s (own s w)).prev
 abbrev pub mark : Words → ℕ → Bool
 mark s w = is_some (before s w)
 
-abbrev pub locked : Words → ℕ → Outcome Words
-locked s w = known w s (locks (place s w) s (put s w W0))
+-- after an accepted `lock`
+abbrev pub come : Words → ℕ → Words
+come s w = put s w W0
 
--- the leaving worker keeps what it read
-abbrev pub unlocked : Words → ℕ → Outcome Words
-unlocked s w = known w s (unlocks (place s w) (mark s w) s (put s w (X0 (unwrap_or (before s w) 0))))
+-- after an accepted `unlock`: the worker keeps what it read
+abbrev pub leave : Words → ℕ → Words
+leave s w = put s w (X0 (unwrap_or (before s w) 0))
 
 abbrev pub access : Label → Words → ℕ → Outcome Words
 access Out s w = (s, Err Idle)
@@ -86,5 +87,6 @@ access Inside s w = (s, Err Idle)
 access (X0 p) s w = (put (set_wait s (own s w) false) w (X1 p), Ok Done)
 access (X1 p) s w = (record { tail = s.tail; nodes = (set_prev s p None).nodes; workers = slice_set s.workers w (outside p) }, Ok Left)
 
-abbrev pub stepped : Words → ℕ → Outcome Words
-stepped s w = known w s (access (label s w) s w)
+-- after the access that the worker has before it
+abbrev pub accessed : Words → ℕ → Outcome Words
+accessed s w = access (label s w) s w

@@ -1,11 +1,10 @@
 -- How far off each worker is: by its label, and by whether the node that it waits at, or would wait at, is shut.
 use Rattle.std.specs.Prelude.{ℕ, Bool, true, false, Some, None, Option}
-use Rattle.lock.specs.Distance.{due_of}
 use Rattle.clh.specs.declared.words.Label.{Label}
 use Rattle.clh.specs.declared.words.Label.TheVariants.{Out, W0, W1, W2, W3, Inside, X0, X1}
 use Rattle.clh.specs.declared.words.Node.{Node}
 use Rattle.clh.specs.declared.words.Words.{Words}
-use Rattle.clh.specs.Accesses.{label, node, place}
+use Rattle.clh.specs.Accesses.{label, node}
 
 abbrev pub unless : Bool → ℕ → Option ℕ
 unless true d = None
@@ -23,6 +22,3 @@ distance_at tail node (X1 p) = None
 
 abbrev pub distance : Words → ℕ → Option ℕ
 distance s w = distance_at s.tail (node s) (label s w)
-
-abbrev pub due_pair : Words → Option (ℕ × ℕ)
-due_pair s = due_of (place s) (distance s)

@@ -1,6 +1,4 @@
 ghost use Rattle.std.specs.Prelude.{◌≡◌};
-ghost use Rattle.std.specs.Option.{unwrap_or};
-ghost use Rattle.clh.specs.declared.words.Label.TheVariants.{W0, X0};
 ghost use Rattle.clh.specs.Accesses.{place_of as place_at, outside as outside_with, worker as worker_of, before as before_of, node, set_wait, set_prev, put as put_label};
 
 use lock::{Algorithm, Answer, Place, Refusal, Ruled, item_or, put_item};
@@ -90,14 +88,14 @@ impl Words {
         item_or(&self.nodes.items, n, BLANK)
     }
 
-    // The mark: `prev` of the own node, which the worker keeps.
+    // The mark: the own node has a `prev`. A leaving worker keeps it in its label.
     fn before(&self, w: u8) -> Option<u8>
         ensures { result ≡ before_of self.now w }
     {
         self.node(self.worker(w).own).prev
     }
 
-    // One function a field: a closure that changes it would be longer.
+    // One function for each field: a closure that changes it would be longer.
     #[tactic(auto, using(rows::proofs::Lending::with_past))]
     fn set_wait(&mut self, n: u8, wait: bool)
         ensures { self.new ≡ set_wait self.old n wait }
@@ -118,7 +116,7 @@ impl Words {
 }
 
 impl Algorithm for Words {
-    ghost use Rattle.clh.specs.Accesses.{new_words, label, place, mark, before, put, access};
+    ghost use Rattle.clh.specs.Accesses.{new_words, place, mark, come, leave, accessed};
     ghost use Rattle.clh.specs.Distance.{distance};
     ghost use Rattle.clh.specs.Facts.{Holds};
 
@@ -134,12 +132,11 @@ impl Algorithm for Words {
 
     ghost new = { new_words };
 
-    ghost come = { λ s w. put s w W0 };
+    ghost come = { come };
 
-    // the leaving worker keeps what it read
-    ghost leave = { λ s w. put s w (X0 (unwrap_or (before s w) 0)) };
+    ghost leave = { leave };
 
-    ghost access = { λ s w. access (label s w) s w };
+    ghost access = { accessed };
 
     ghost Holds = { Holds };
 

@@ -1,4 +1,4 @@
--- The number of the refusal, as transcripts write it.
+-- The number of the refusal.
 use Rattle.std.specs.Prelude.{ℕ}
 use Rattle.list.specs.declared.memory.Memory.{Memory}
 use Rattle.list.specs.declared.memory.Memory.TheVariants.{TooShort}

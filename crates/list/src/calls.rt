@@ -44,7 +44,8 @@ impl<'a, T: Drop> List<'a, T> {
         self.len = 0;
     }
 
-    // Refused where the list is full. The write is by index, since a slice's `get_mut` says nothing of the elements after it.
+    // Refused where the list is full. By index, since after a write through `get_mut` nothing is
+    // known of the other elements.
     pub fn push(&mut self, x: T) -> Result<(), Memory>
         ensures value { result ≡ push_answer self.old }
         ensures items { list_len self.old < list_room self.old → list_items self.new ≡ list_items self.old ++ x ∷ [] }

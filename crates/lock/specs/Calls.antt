@@ -1,5 +1,5 @@
 -- What the calls of every kind of lock have in common, over the words that a kind has.
-use Rattle.std.specs.Prelude.{ℕ, Bool, if◌then◌else◌, Ok, Err, Result, ◌==◌, nat_lt}
+use Rattle.std.specs.Prelude.{ℕ, Bool, false, if◌then◌else◌, Some, None, Ok, Err, Option, Result, ◌==◌, nat_lt}
 use Rattle.lock.specs.declared.place.Place.{Place}
 use Rattle.lock.specs.declared.place.Place.TheVariants.{Out, Waiting, Inside, Leaving}
 use Rattle.lock.specs.declared.answer.Answer.{Answer}
@@ -32,6 +32,11 @@ unlocks Out marked s t = if marked then (t, Ok Done) else (s, Err NotHeld)
 unlocks Waiting marked s t = (s, Err Busy)
 unlocks Inside marked s t = if marked then (t, Ok Done) else (s, Err NotHeld)
 unlocks Leaving marked s t = (s, Err Busy)
+
+-- whether a word that names a worker or nobody names w
+abbrev pub names : Option ℕ → ℕ → Bool
+names None w = false
+names (Some h) w = h == w
 
 -- f with x at i
 abbrev pub upd : {A : Type 0} → (ℕ → A) → ℕ → A → ℕ → A

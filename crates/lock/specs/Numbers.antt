@@ -1,4 +1,4 @@
--- The number of each place, answer and refusal, as schedules and transcripts write it.
+-- The number of each place, answer and refusal. Transcripts write those of answers and refusals.
 use Rattle.std.specs.Prelude.{ℕ, Ok, Err, Result}
 use Rattle.lock.specs.declared.place.Place.{Place}
 use Rattle.lock.specs.declared.place.Place.TheVariants.{Out, Waiting, Inside, Leaving}

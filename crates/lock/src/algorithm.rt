@@ -6,7 +6,7 @@ ghost use Rattle.lock.specs.Calls.{Outcome};
 use crate::{Answer, Place, Refusal};
 
 // The shared words of a kind of lock with the workers' labels, and what an access does to them. A worker
-// above 15 is out, has no distance, and is never let through to the calls that change something.
+// above 15 is out and has no distance; `Spinlock` passes none to `come`, `leave` or `access`.
 pub trait Algorithm: Sized + Drop {
     // The largest distance of a worker that is due.
     const BOUND: u32;
@@ -23,9 +23,10 @@ pub trait Algorithm: Sized + Drop {
 
     ghost new: { Self };
 
-    // The words after an accepted `lock`, and after an accepted `unlock`.
+    // The words after an accepted `lock`.
     ghost come: { Self → ℕ → Self };
 
+    // The words after an accepted `unlock`.
     ghost leave: { Self → ℕ → Self };
 
     ghost access: { Self → ℕ → Outcome Self };

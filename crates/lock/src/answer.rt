@@ -15,7 +15,7 @@ pub enum Answer {
 }
 
 impl Answer {
-    // As transcripts write it. A method of each enum, and no `From`, so that a call says which number it is.
+    // The number that transcripts write. A method and no `From`, so that a call says which number it is.
     pub fn number(self) -> u8
         ensures { result ≡ answer_number self }
     {
@@ -34,7 +34,8 @@ impl Answer {
     }
 }
 
-// The number of an answer or of a refusal; no two of them have the same. A function, since a `Result` gets no `From` here.
+// The number of an answer or of a refusal; no two of them have the same. A function, since `From` cannot be
+// implemented here for a type of std.
 pub fn outcome_number(outcome: Result<Answer, Refusal>) -> u8
     ensures { result ≡ numbered outcome }
 {

@@ -8,8 +8,8 @@ pub fn item_or<T: Copy>(items: &[T], w: u8, other: T) -> T
     items.get(usize::from(w)).copied().unwrap_or(other)
 }
 
-// Writes the item of the worker w, where it has one. By index, since after a change through `get_mut` nothing is known of
-// the items.
+// Writes the item of the worker w, where it has one. By index, since after a write through `get_mut` nothing is known
+// of the other items.
 pub fn put_item<T: Copy>(items: &mut [T], w: u8, item: T)
     ensures { items.new ≡ slice_set items.old w item }
 {

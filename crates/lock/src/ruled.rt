@@ -4,7 +4,7 @@ use crate::Algorithm;
 
 // An algorithm by which a lock keeps the rules.
 pub trait Ruled: Algorithm {
-    // Says only that it does.
+    // No code: its contract says that the rules are kept.
     fn keeps_rules()
         ensures { Lawful Self.Algorithm };
 }

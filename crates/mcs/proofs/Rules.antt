@@ -10,6 +10,7 @@ use Rattle.lock.specs.declared.answer.Answer.TheVariants.{Done, Entered, Left}
 use Rattle.lock.specs.declared.refusal.Refusal.TheVariants.{Idle, Busy, Held}
 use Rattle.lock.specs.Rules.{Request, locking, unlocking, stepping, Leads}
 use Rattle.lock.specs.Calls.{Outcome, locks, upd}
+use Rattle.lock.specs.Algorithms.{locked, unlocked, stepped}
 use Rattle.lock.proofs.Pair.{Onward}
 use Rattle.lock.proofs.Small.{all_same, never}
 use Rattle.lock.proofs.Labelled as labelled
@@ -21,7 +22,8 @@ use Rattle.mcs.specs.declared.words.Label.{Label}
 use Rattle.mcs.specs.declared.words.Label.TheVariants.{Out, W0, W1, W2, W3, W4, W5, Inside, X0, X1, X2, X3, X4}
 use Rattle.mcs.specs.declared.words.Node.{Node}
 use Rattle.mcs.specs.declared.words.Words.{Words}
-use Rattle.mcs.specs.Accesses.{new_words, blank, label, place_of, place, node, set_last, set_node, put, mark, answer_of, answered, moved, swapped, linked, ends, access, locked, unlocked, stepped}
+use Rattle.mcs.specs.contracts.words.WordsAlgorithm.TheImpl as algorithm
+use Rattle.mcs.specs.Accesses.{new_words, blank, label, place_of, place, node, set_last, set_node, put, mark, answer_of, answered, moved, swapped, linked, ends, access}
 use Rattle.mcs.specs.Facts.{Sixteen, queued, ahead, link, Stands, Chained, Holds}
 use Rattle.mcs.proofs.Keeps.{standing, preceded, heir, keep_wait, keep_lock, keep_unlock, keep_W0, keep_alone, keep_W1, keep_W2, keep_W3, keep_W4, keep_W5, keep_X0, keep_linked, more, keep_X1, keep_last, keep_X3, keep_X4}
 use Rattle.mcs.proofs.Nearing.{distances, fitting, some, on_lock, on_W0, on_alone, on_W1, on_W2, on_W3, on_wait, on_W4, on_X0, on_link, on_X1, on_spin, on_X2, on_X3, on_X4, on_last}
@@ -147,7 +149,7 @@ module _ (s : Words) (w : ℕ) (ok : ∥ Holds s ∥₁) where
     step_at (X3 n) at = writes Done (X3 n) X4 n _ at refl (λ f. (heir f.1.1 w lt n at).2) (λ f. (handed f.1.0, keep_X3 f.1.1 w lt n at)) (λ f m. on_X3 f.1.1 w lt n at)
     step_at X4 at = writes Left X4 Out w _ at refl (λ f. lt) (λ f. (f.1.0, keep_X4 f.1.1 w lt at)) (λ f m. on_X4 f.1.1 w lt at)
 
-  pub lock_good : Good locking (locked s w)
+  pub lock_good : Good locking (locked algorithm.ghosts s w)
   lock_good = labelled.looked kind s ok locking w _ (λ lt. by_place lt (place s w) refl)
     where
       by_place : w < 16 → (p : Place) → place s w ≡ p → Good locking (locks p s (put s w W0))
@@ -157,11 +159,11 @@ module _ (s : Words) (w : ℕ) (ok : ∥ Holds s ∥₁) where
       by_place lt places.Inside at = labelled.refused kind s ok locking w lt places.Inside at Held (refl, refl)
       by_place lt places.Leaving at = labelled.refused kind s ok locking w lt places.Leaving at Busy (refl, refl)
 
-  pub unlock_good : Good unlocking (unlocked s w)
+  pub unlock_good : Good unlocking (unlocked algorithm.ghosts s w)
   unlock_good = labelled.unlocked kind s ok w (put s w X0) X0 (labels (put s w X0) X0 refl) refl
       (λ lt at f. holding (put s w X0) X0 refl lt (node s) refl (f.1.0, keep_unlock f.1.1 w lt (inside_is (label s w) at)))
 
-  pub step_good : Good stepping (stepped s w)
+  pub step_good : Good stepping (stepped algorithm.ghosts s w)
   step_good = labelled.looked kind s ok stepping w _ (λ lt. step_at lt (label s w) refl)
 
 -- nobody has come: the line is empty

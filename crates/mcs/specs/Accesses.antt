@@ -6,7 +6,7 @@ use Rattle.lock.specs.declared.answer.Answer.{Answer}
 use Rattle.lock.specs.declared.answer.Answer.TheVariants.{Done, Entered, Left}
 use Rattle.lock.specs.declared.refusal.Refusal.{Refusal}
 use Rattle.lock.specs.declared.refusal.Refusal.TheVariants.{Idle}
-use Rattle.lock.specs.Calls.{Outcome, known, locks, unlocks}
+use Rattle.lock.specs.Calls.{Outcome}
 use Rattle.rows.specs.With.{with}
 use Rattle.mcs.specs.declared.words.Label.{Label}
 use Rattle.mcs.specs.declared.words.Label.TheVariants.{Out, W0, W1, W2, W3, W4, W5, Inside, X0, X1, X2, X3, X4}
@@ -78,11 +78,13 @@ put s w l = record { last = s.last; nodes = s.nodes; at = slice_set s.at w l }
 abbrev pub mark : Words → ℕ → Bool
 mark s w = (node s w).locked
 
-abbrev pub locked : Words → ℕ → Outcome Words
-locked s w = known w s (locks (place s w) s (put s w W0))
+-- after an accepted `lock`
+abbrev pub come : Words → ℕ → Words
+come s w = put s w W0
 
-abbrev pub unlocked : Words → ℕ → Outcome Words
-unlocked s w = known w s (unlocks (place s w) (mark s w) s (put s w X0))
+-- after an accepted `unlock`
+abbrev pub leave : Words → ℕ → Words
+leave s w = put s w X0
 
 -- whether the last of the line is w
 abbrev pub ends : Option ℕ → ℕ → Bool
@@ -123,5 +125,6 @@ answered (Err e) s t = (s, Err e)
 abbrev pub moved : Words × Label → ℕ → Words
 moved t w = put t.0 w t.1
 
-abbrev pub stepped : Words → ℕ → Outcome Words
-stepped s w = known w s (answered (answer_of (label s w)) s (moved (access (label s w) s w) w))
+-- after the access that the worker has before it
+abbrev pub accessed : Words → ℕ → Outcome Words
+accessed s w = answered (answer_of (label s w)) s (moved (access (label s w) s w) w)

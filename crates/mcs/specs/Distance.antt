@@ -1,11 +1,10 @@
 -- How far off each worker is: by its label, its own node, whether anybody is last, and whether the one before it waits to be linked.
 use Rattle.std.specs.Prelude.{ℕ, Bool, true, false, if◌then◌else◌, is_some, Some, None, Option}
-use Rattle.lock.specs.Distance.{due_of}
 use Rattle.mcs.specs.declared.words.Label.{Label}
 use Rattle.mcs.specs.declared.words.Label.TheVariants.{Out, W0, W1, W2, W3, W4, W5, Inside, X0, X1, X2, X3, X4}
 use Rattle.mcs.specs.declared.words.Node.{Node}
 use Rattle.mcs.specs.declared.words.Words.{Words}
-use Rattle.mcs.specs.Accesses.{label, node, place}
+use Rattle.mcs.specs.Accesses.{label, node}
 
 -- whether a worker at a label waits to be linked
 abbrev pub unlinked : Label → Bool
@@ -40,6 +39,3 @@ distance_at last own label X4 = None
 
 abbrev pub distance : Words → ℕ → Option ℕ
 distance s w = distance_at s.last (node s w) (label s) (label s w)
-
-abbrev pub due_pair : Words → Option (ℕ × ℕ)
-due_pair s = due_of (place s) (distance s)

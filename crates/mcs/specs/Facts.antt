@@ -43,7 +43,7 @@ ahead X2 = true
 ahead (X3 n) = true
 ahead X4 = false
 
--- that of a worker which the one before it names
+-- the labels of a worker that the one before it names
 abbrev pub named : Label → Bool
 named Out = false
 named W0 = false

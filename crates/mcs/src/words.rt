@@ -1,5 +1,4 @@
 ghost use Rattle.std.specs.Prelude.{◌≡◌};
-ghost use Rattle.mcs.specs.declared.words.Label.TheVariants.{W0, X0};
 ghost use Rattle.mcs.specs.Distance.{unlinked as unlinked_of};
 ghost use Rattle.mcs.specs.Accesses.{place_of as place_at, answer_of, label as label_of, node, set_next, set_locked, access as access_of};
 
@@ -89,7 +88,7 @@ impl Words {
         item_or(&self.nodes.items, w, BLANK)
     }
 
-    // One function a field: a closure that changes it would be longer.
+    // One function for each field: a closure that changes it would be longer.
     #[tactic(auto, using(rows::proofs::Lending::with_past))]
     fn set_next(&mut self, w: u8, next: Option<u8>)
         ensures { self.new ≡ set_next self.old w next }
@@ -153,7 +152,7 @@ impl Words {
 }
 
 impl Algorithm for Words {
-    ghost use Rattle.mcs.specs.Accesses.{new_words, label, place, mark, put, answer_of, answered, moved, access};
+    ghost use Rattle.mcs.specs.Accesses.{new_words, place, mark, come, leave, accessed};
     ghost use Rattle.mcs.specs.Distance.{distance};
     ghost use Rattle.mcs.specs.Facts.{Holds};
 
@@ -169,11 +168,11 @@ impl Algorithm for Words {
 
     ghost new = { new_words };
 
-    ghost come = { λ s w. put s w W0 };
+    ghost come = { come };
 
-    ghost leave = { λ s w. put s w X0 };
+    ghost leave = { leave };
 
-    ghost access = { λ s w. answered (answer_of (label s w)) s (moved (access (label s w) s w) w) };
+    ghost access = { accessed };
 
     ghost Holds = { Holds };
 

@@ -17,7 +17,7 @@ impl<T, const N: usize> Rows<T, N> {
         Rows { items }
     }
 
-    // The value at `i`, lent: when the loan ends the table has the new value there, and is else as it was.
+    // The value at `i`, lent: when the loan ends the table has the new value there, and is otherwise as it was.
     // By index, since `get_mut` is not proved on an array of a type parameter.
     pub fn item(&mut self, i: usize) -> Option<&mut T>
         ensures* follows { sem 𝓛 (LendsIf (the_row T.row N.row) T.row self.entry result (with self.old i) self.old) }

@@ -33,7 +33,7 @@ pub record Ended {S : Type 0} (lock : Ghosts S) (es : List Event) (rs : List (Re
   pub chests : e.chests ≡ length (stock_of ran.history)
   pub grams : e.grams ≡ total (stock_of ran.history)
 
--- over a lock of the kind, whose bound is that of its algorithm
+-- over a lock of the kind, whose bound is that of its algorithm (`worked::bounds` lists them)
 abbrev pub EndedBy : Kind → List Event → List (Result Answer Refusal) → Ending → Type 0
 EndedBy Tas es rs e = Ended (lock_of tas.ghosts) es rs e
 EndedBy Ticket es rs e = Ended (lock_of ticket.ghosts) es rs e

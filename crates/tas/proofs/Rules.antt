@@ -10,13 +10,15 @@ use Rattle.lock.specs.declared.answer.Answer.{Answer}
 use Rattle.lock.specs.declared.answer.Answer.TheVariants.{Done, Entered, Left}
 use Rattle.lock.specs.declared.refusal.Refusal.TheVariants.{Idle}
 use Rattle.lock.specs.Rules.{Request, locking, unlocking, stepping, Leads}
-use Rattle.lock.specs.Calls.{Outcome, upd}
+use Rattle.lock.specs.Calls.{Outcome, names, upd}
+use Rattle.lock.specs.Algorithms.{locked, unlocked, stepped}
 use Rattle.lock.proofs.Pair.{SomeDistance, Fitting, Onward}
 use Rattle.lock.proofs.Small.{all_same}
 use Rattle.lock.proofs.Labelled as labelled
 use Rattle.lock.proofs.Labelled.{Kind, Free, Waits, read_set, upd_same, upd_other}
 use Rattle.tas.specs.declared.words.Words.{Words}
-use Rattle.tas.specs.Accesses.{new_words, label, names, mark, put, W0, access, locked, unlocked, stepped, Sixteen, holding, Holds}
+use Rattle.tas.specs.contracts.words.WordsAlgorithm.TheImpl as algorithm
+use Rattle.tas.specs.Accesses.{new_words, label, mark, put, W0, access, Sixteen, holding, Holds}
 use Rattle.tas.specs.Distance.{distance_at}
 
 -- the distances, where L are the labels
@@ -134,16 +136,16 @@ module _ (s : Words) (w : ℕ) (ok : ∥ Holds s ∥₁) where
       alone f v ne Inside i d e = none_some e
       alone f v ne Leaving i d e = ne (let z : Some v ≡ Some w = sym (holder s f v (ap holding i)) ∙ mine f in cc)
 
-  pub lock_good : Good locking (locked s w)
+  pub lock_good : Good locking (locked algorithm.ghosts s w)
   lock_good = labelled.locked kind s ok w (put s s.holder w Waiting) Waiting (λ lt. labels s w lt s.holder Waiting sixteen) refl
       (λ lt at f. written s w lt s.holder Waiting f (sym (ap holding at) ∙ f.1 w) (λ v ne. refl))
       (λ v ne. ap (λ p. distance_at p s.holder) (upd_other (label s) w v Waiting ne))
 
-  pub unlock_good : Good unlocking (unlocked s w)
+  pub unlock_good : Good unlocking (unlocked algorithm.ghosts s w)
   unlock_good = labelled.unlocked kind s ok w (put s s.holder w Leaving) Leaving (λ lt. labels s w lt s.holder Leaving sixteen) refl
       (λ lt at f. written s w lt s.holder Leaving f (sym (ap holding at) ∙ f.1 w) (λ v ne. refl))
 
-  pub step_good : Good stepping (stepped s w)
+  pub step_good : Good stepping (stepped algorithm.ghosts s w)
   step_good = labelled.looked kind s ok stepping w _ (λ lt. step_at lt (label s w) refl)
 
 pub new_holds : Holds new_words

@@ -1,10 +1,10 @@
 -- Every word of the test-and-set lock after every call.
-use Rattle.std.specs.Prelude.{◌≡◌, ℕ, Bool, true, false, length, replicate, Some, None, Ok, Err, Option, ◌==◌, slice_index_or, slice_set}
+use Rattle.std.specs.Prelude.{◌≡◌, ℕ, Bool, true, false, length, replicate, Some, None, Ok, Err, Option, slice_index_or, slice_set}
 use Rattle.lock.specs.declared.place.Place.{Place}
 use Rattle.lock.specs.declared.place.Place.TheVariants.{Out, Waiting, Inside, Leaving}
 use Rattle.lock.specs.declared.answer.Answer.TheVariants.{Done, Entered, Left}
 use Rattle.lock.specs.declared.refusal.Refusal.TheVariants.{Idle}
-use Rattle.lock.specs.Calls.{Outcome, known, locks, unlocks}
+use Rattle.lock.specs.Calls.{Outcome, names}
 use Rattle.tas.specs.declared.words.Words.{Words}
 
 abbrev pub new_words : Words
@@ -14,10 +14,6 @@ abbrev pub label : Words → ℕ → Place
 label s w = slice_index_or s.at w Out
 
 -- the mark: the word names w
-abbrev pub names : Option ℕ → ℕ → Bool
-names None w = false
-names (Some h) w = h == w
-
 abbrev pub mark : Words → ℕ → Bool
 mark s w = names s.holder w
 
@@ -25,11 +21,13 @@ mark s w = names s.holder w
 abbrev pub put : Words → Option ℕ → ℕ → Place → Words
 put s h w p = record { holder = h; at = slice_set s.at w p }
 
-abbrev pub locked : Words → ℕ → Outcome Words
-locked s w = known w s (locks (label s w) s (put s s.holder w Waiting))
+-- after an accepted `lock`
+abbrev pub come : Words → ℕ → Words
+come s w = put s s.holder w Waiting
 
-abbrev pub unlocked : Words → ℕ → Outcome Words
-unlocked s w = known w s (unlocks (label s w) (mark s w) s (put s s.holder w Leaving))
+-- after an accepted `unlock`
+abbrev pub leave : Words → ℕ → Words
+leave s w = put s s.holder w Leaving
 
 -- W0: enter where the word is free, else stay
 abbrev pub W0 : Option ℕ → Words → ℕ → Outcome Words
@@ -46,8 +44,9 @@ access Waiting s w = W0 s.holder s w
 access Inside s w = (s, Err Idle)
 access Leaving s w = X0 s w
 
-abbrev pub stepped : Words → ℕ → Outcome Words
-stepped s w = known w s (access (label s w) s w)
+-- after the access that the worker has before it
+abbrev pub accessed : Words → ℕ → Outcome Words
+accessed s w = access (label s w) s w
 
 -- ## What holds at every moment
 

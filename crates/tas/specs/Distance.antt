@@ -1,8 +1,7 @@
--- How far off each worker is: one that leaves two accesses, one that finds the word free one.
+-- How far off each worker is: one that leaves is two accesses off, one that finds the word free is one off.
 use Rattle.std.specs.Prelude.{ℕ, Some, None, Option}
 use Rattle.lock.specs.declared.place.Place.{Place}
 use Rattle.lock.specs.declared.place.Place.TheVariants.{Out, Waiting, Inside, Leaving}
-use Rattle.lock.specs.Distance.{due_of}
 use Rattle.tas.specs.declared.words.Words.{Words}
 use Rattle.tas.specs.Accesses.{label}
 
@@ -15,6 +14,3 @@ distance_at Leaving h = Some 2
 
 abbrev pub distance : Words → ℕ → Option ℕ
 distance s w = distance_at (label s w) s.holder
-
-abbrev pub due_pair : Words → Option (ℕ × ℕ)
-due_pair s = due_of (label s) (distance s)

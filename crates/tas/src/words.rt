@@ -1,5 +1,4 @@
 ghost use Rattle.std.specs.Prelude.{◌≡◌};
-ghost use Rattle.lock.specs.declared.place.Place.TheVariants.{Waiting, Leaving};
 
 use lock::{Algorithm, Answer, Place, Refusal, Ruled, item_or, put_item};
 
@@ -12,7 +11,7 @@ pub struct Words {
 }
 
 impl Algorithm for Words {
-    ghost use Rattle.tas.specs.Accesses.{Holds, new_words, label, mark, put, access};
+    ghost use Rattle.tas.specs.Accesses.{Holds, new_words, label, mark, come, leave, accessed};
     ghost use Rattle.tas.specs.Distance.{distance};
 
     const BOUND: u32 = 2;
@@ -27,11 +26,11 @@ impl Algorithm for Words {
 
     ghost new = { new_words };
 
-    ghost come = { λ s w. put s s.holder w Waiting };
+    ghost come = { come };
 
-    ghost leave = { λ s w. put s s.holder w Leaving };
+    ghost leave = { leave };
 
-    ghost access = { λ s w. access (label s w) s w };
+    ghost access = { accessed };
 
     ghost Holds = { Holds };
 

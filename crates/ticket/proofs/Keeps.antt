@@ -1,6 +1,6 @@
 -- What each access does to the counted line.
 use Rattle.std.proofs.Common.{◌≡◌, ℕ, ◌%◌, ◌^◌, ◌<◌, true, false, eqb, Option, sym, refl, ap, ◌∙◌, arith}
-use Rattle.lock.specs.Calls.{upd}
+use Rattle.lock.specs.Calls.{names, upd}
 use Rattle.lock.proofs.Labelled.{upd_same, upd_other}
 use Rattle.queue.specs.declared.stage.Stage.TheVariants.{Away, Queued}
 use Rattle.queue.specs.Stages.{in_line, at_front}
@@ -12,7 +12,7 @@ use Rattle.queue.proofs.Ordering.{few}
 use Rattle.queue.proofs.Staging.{sole, stays, joins, hands_on, over}
 use Rattle.ticket.specs.declared.words.Label.{Label}
 use Rattle.ticket.specs.declared.words.Label.TheVariants.{Out, W0, W1, W2, Inside, X0, X1}
-use Rattle.ticket.specs.Accesses.{stage_at, names}
+use Rattle.ticket.specs.Accesses.{stage_at}
 use Rattle.ticket.specs.Facts.{holding, Counted}
 
 holding_front : (l : Label) → holding l ≡ true → at_front (stage_at l) ≡ true

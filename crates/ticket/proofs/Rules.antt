@@ -6,6 +6,7 @@ use Rattle.std.proofs.lemmas.Bool.{eq-eqb, ne_eqb, eqb-true, false≢true}
 use Rattle.lock.specs.declared.answer.Answer.TheVariants.{Done}
 use Rattle.lock.specs.Rules.{Request, locking, unlocking, stepping}
 use Rattle.lock.specs.Calls.{Outcome, upd}
+use Rattle.lock.specs.Algorithms.{locked, unlocked, stepped}
 use Rattle.lock.proofs.Small.{all_same}
 use Rattle.lock.proofs.Labelled as labelled
 use Rattle.lock.proofs.Labelled.{read_set}
@@ -17,7 +18,8 @@ use Rattle.queue.proofs.Turnwise as turnwise
 use Rattle.ticket.specs.declared.words.Label.{Label}
 use Rattle.ticket.specs.declared.words.Label.TheVariants.{Out, W0, W1, W2, Inside, X0, X1}
 use Rattle.ticket.specs.declared.words.Words.{Words}
-use Rattle.ticket.specs.Accesses.{new_words, label, stage_at, stage, put, access, locked, unlocked, stepped}
+use Rattle.ticket.specs.contracts.words.WordsAlgorithm.TheImpl as algorithm
+use Rattle.ticket.specs.Accesses.{new_words, label, stage_at, stage, put, access}
 use Rattle.ticket.specs.Distance.{turn_at, turn}
 use Rattle.ticket.specs.Facts.{Sixteen, holding, Counted, Holds}
 use Rattle.ticket.proofs.Keeps.{first_served, moved, other_free, drawn, served}
@@ -76,18 +78,18 @@ module _ (words : Words) (w : ℕ) (facts : ∥ Holds words ∥₁) where
         5 4 (ap stage_at at) (omega arith) (stages (after X0) X1 refl lt)
     step_at X1 at = turnwise.hands_on kind words facts w lt (after X1) (keeps (after X1) Out refl lt handed (λ o f. served f w at)) 4 (ap stage_at at) (stages (after X1) Out refl lt)
 
-  pub lock_good : Good locking (locked words w)
+  pub lock_good : Good locking (locked algorithm.ghosts words w)
   lock_good = turnwise.locked kind words facts w (put words w W0) (stages (put words w W0) W0 refl)
       (λ lt at. keeps (put words w W0) W0 refl lt (λ o. o) (λ o f. moved f w W0 words.holder (sym (ap in_line at))
       (λ a. absurd (false≢true a)) (λ t k. grind (arith, k)) (sym (away_free (label words w) at) ∙ f.marks w) (λ v ne. refl)))
       (λ v ne. ap (turn_at words.next words.serving) (get_or-set_other words.at w v W0 Out ne))
 
-  pub unlock_good : Good unlocking (unlocked words w)
+  pub unlock_good : Good unlocking (unlocked algorithm.ghosts words w)
   unlock_good = turnwise.unlocked kind words facts w (put words w X0) 5 (stages (put words w X0) X0 refl)
       (λ lt at. keeps (put words w X0) X0 refl lt (λ o. o) (λ o f. moved f w X0 words.holder (sym (ap in_line at))
       (λ a. f.staged.front w (ap at_front at)) (λ t k. grind (arith, k)) (sym (within_holds (label words w) at) ∙ f.marks w) (λ v ne. refl)))
 
-  pub step_good : Good stepping (stepped words w)
+  pub step_good : Good stepping (stepped algorithm.ghosts words w)
   step_good = labelled.looked (turnwise.kind kind) words facts stepping w _ (λ lt. step_at lt (label words w) refl)
 
 pub new_holds : Holds new_words

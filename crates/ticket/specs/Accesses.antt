@@ -1,9 +1,9 @@
 -- Every word of the ticket lock after every call.
-use Rattle.std.specs.Prelude.{ℕ, Bool, false, if◌then◌else◌, replicate, Some, None, Ok, Err, Option, ◌==◌, slice_index_or, slice_set}
+use Rattle.std.specs.Prelude.{ℕ, Bool, if◌then◌else◌, replicate, Some, None, Ok, Err, ◌==◌, slice_index_or, slice_set}
 use Rattle.lock.specs.declared.place.Place.{Place}
 use Rattle.lock.specs.declared.answer.Answer.TheVariants.{Done, Entered, Left}
 use Rattle.lock.specs.declared.refusal.Refusal.TheVariants.{Idle}
-use Rattle.lock.specs.Calls.{Outcome, known, locks, unlocks}
+use Rattle.lock.specs.Calls.{Outcome, names}
 use Rattle.queue.specs.declared.stage.Stage.{Stage}
 use Rattle.queue.specs.declared.stage.Stage.TheVariants.{Away, Coming, Queued, Ready, Within, Leaving}
 use Rattle.queue.specs.Stages.{place_of}
@@ -34,21 +34,19 @@ abbrev pub place : Words → ℕ → Place
 place s w = place_of (stage s w)
 
 -- the mark: the holder is w
-abbrev pub names : Option ℕ → ℕ → Bool
-names None w = false
-names (Some h) w = h == w
-
 abbrev pub mark : Words → ℕ → Bool
 mark s w = names s.holder w
 
 abbrev pub put : Words → ℕ → Label → Words
 put s w l = record { next = s.next; serving = s.serving; holder = s.holder; at = slice_set s.at w l }
 
-abbrev pub locked : Words → ℕ → Outcome Words
-locked s w = known w s (locks (place s w) s (put s w W0))
+-- after an accepted `lock`
+abbrev pub come : Words → ℕ → Words
+come s w = put s w W0
 
-abbrev pub unlocked : Words → ℕ → Outcome Words
-unlocked s w = known w s (unlocks (place s w) (mark s w) s (put s w X0))
+-- after an accepted `unlock`
+abbrev pub leave : Words → ℕ → Words
+leave s w = put s w X0
 
 -- W0 draws a ticket, W1 stays until it is served, W2 writes the holder, X0 clears it, X1 serves the next ticket
 abbrev pub access : Label → Words → ℕ → Outcome Words
@@ -60,5 +58,6 @@ access Inside s w = (s, Err Idle)
 access X0 s w = (record { next = s.next; serving = s.serving; holder = None; at = slice_set s.at w X1 }, Ok Done)
 access X1 s w = (record { next = s.next; serving = more s.serving; holder = s.holder; at = slice_set s.at w Out }, Ok Left)
 
-abbrev pub stepped : Words → ℕ → Outcome Words
-stepped s w = known w s (access (label s w) s w)
+-- after the access that the worker has before it
+abbrev pub accessed : Words → ℕ → Outcome Words
+accessed s w = access (label s w) s w

@@ -1,11 +1,10 @@
 -- How far off each worker is: by its stage, and by whether the ticket that is served is its own.
 use Rattle.std.specs.Prelude.{ℕ, Bool, false, Option, ◌==◌}
-use Rattle.lock.specs.Distance.{due_of}
 use Rattle.queue.specs.Stages.{distance_of}
 use Rattle.ticket.specs.declared.words.Label.{Label}
 use Rattle.ticket.specs.declared.words.Label.TheVariants.{Out, W0, W1, W2, Inside, X0, X1}
 use Rattle.ticket.specs.declared.words.Words.{Words}
-use Rattle.ticket.specs.Accesses.{label, stage, place}
+use Rattle.ticket.specs.Accesses.{label, stage}
 
 -- the ticket drawn, or at W0 the one that would be drawn
 abbrev pub turn_at : (next serving : ℕ) → Label → Bool
@@ -22,6 +21,3 @@ turn s w = turn_at s.next s.serving (label s w)
 
 abbrev pub distance : Words → ℕ → Option ℕ
 distance s w = distance_of (stage s w) (turn s w)
-
-abbrev pub due_pair : Words → Option (ℕ × ℕ)
-due_pair s = due_of (place s) (distance s)

@@ -1,12 +1,13 @@
 -- What holds of the words at every moment: they count the line of the workers that have drawn a
 -- ticket and not yet served the next one.
 use Rattle.std.specs.Prelude.{◌≡◌, ℕ, ◌%◌, ◌^◌, Bool, true, false, length, Option}
+use Rattle.lock.specs.Calls.{names}
 use Rattle.queue.specs.Line.{Line}
 use Rattle.queue.specs.Stages.{Staged}
 use Rattle.ticket.specs.declared.words.Label.{Label}
 use Rattle.ticket.specs.declared.words.Label.TheVariants.{Out, W0, W1, W2, Inside, X0, X1}
 use Rattle.ticket.specs.declared.words.Words.{Words}
-use Rattle.ticket.specs.Accesses.{label, stage_at, names}
+use Rattle.ticket.specs.Accesses.{label, stage_at}
 
 abbrev pub Sixteen : Words → Type 0
 Sixteen s = length s.at ≡ 16
@@ -31,9 +32,9 @@ pub record Counted (next serving : ℕ) (holder : Option ℕ) (at : ℕ → Labe
   -- the holder is whoever is inside or about to clear it
   pub marks : (w : ℕ) → holding (at w) ≡ names holder w
 
+-- some line is counted so
 abbrev pub Ordered : Words → Type 0
 Ordered s = (o : Line) × Counted s.next s.serving s.holder (label s) o
 
--- some line is counted so
 abbrev pub Holds : Words → Type 0
 Holds s = Sixteen s × Ordered s

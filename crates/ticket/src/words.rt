@@ -1,6 +1,5 @@
 ghost use Rattle.std.specs.Prelude.{◌≡◌};
-ghost use Rattle.ticket.specs.declared.words.Label.TheVariants.{W0, X0};
-ghost use Rattle.ticket.specs.Accesses.{stage_at, new_words, label, place, mark, put, access};
+ghost use Rattle.ticket.specs.Accesses.{stage_at, new_words, label, place, mark, come, leave, accessed};
 ghost use Rattle.ticket.specs.Distance.{turn_at, distance};
 ghost use Rattle.ticket.specs.Facts.{Holds};
 
@@ -76,11 +75,11 @@ impl Algorithm for Words {
 
     ghost new = { new_words };
 
-    ghost come = { λ s w. put s w W0 };
+    ghost come = { come };
 
-    ghost leave = { λ s w. put s w X0 };
+    ghost leave = { leave };
 
-    ghost access = { λ s w. access (label s w) s w };
+    ghost access = { accessed };
 
     ghost Holds = { Holds };
 

@@ -17,7 +17,7 @@ pub fn worked_cases()
     ensures { Worked }
 {}
 
-// The constants of the kinds, which a generic contract cannot name: they are the bounds that the rules go by.
+// The constants of the kinds, as numbers: they are the bounds that the rules go by.
 pub fn bounds() -> [u32; 5]
     ensures value { result ≡ 2 ∷ 5 ∷ 4 ∷ 10 ∷ 5 ∷ [] }
     ensures ruled { result ≡ ruled }
