@@ -16,24 +16,32 @@ LINES = {
     "3 a loop with a condition": r"^\s*while ",
     "3 a loop over numbers": r"\bfor \w+ in \d",
     "3 an index or a count kept by hand": r"enumerate\(\)|\bcount \+= 1|^\s*start = |\blen \+= got",
-    "4 a conversion or a name by hand": r"fn (number|name|line|\w+_name|\w+_named|\w+_number|bare_call|same_bytes)\(",
+    "4 a conversion or a name by hand": r"fn (number|name|named|line|\w+_name|\w+_named|\w+_number|bare_call|same_bytes)\(",
     "4 printing by hand": r"impl.* (fmt::Display|Printable) for",
     "6 a fixed buffer or table": r"^\s*(pub )?(let mut )?\w+(: | = )\[.*; [\w_]+\][,;]",
     "6 a length or an index beside what it counts": r"^\s*(pub(\(crate\))? )?(len|at): usize,",
-    "7 a choice of what to run": r"match (kind|event\.call|call|label)\b",
+    "7 a match over labels, calls, kinds or stages": r"match (self|kind|event\.call|call|label|place|self\.label\(w\)|self\.worker\(w\)\.label|self\.lock\.place\(w\)\?|\((label|stage), \w+\)) \{",
 }
 
 
 def functions(text):
     """Each function with a body: its name, its head and its body."""
-    for m in re.finditer(r"^( *)(?:pub(?:\(crate\))? )?fn (\w+)", text, re.M):
-        indent = m.group(1)
-        end = re.search(r"^%s}$|^%s\{\}$|;$" % (indent, indent), text[m.start():], re.M)
-        whole = text[m.start():m.start() + end.end()] if end else ""
-        if whole.endswith("}"):
-            brace = re.search(r"^%s\{|\{$" % indent, whole, re.M)
-            if brace:
-                yield m.group(2), whole[:brace.start()], whole[brace.start():]
+    for m in re.finditer(r"^ *(?:pub(?:\(crate\))? )?fn (\w+)", text, re.M):
+        lines = text[m.start():].splitlines(keepends=True)
+        indent = re.match(" *", lines[0]).group(0)
+        head, body, inside = "", "", False
+        for line in lines:
+            if not inside and re.match(r"%s(.*\S )?\{( *\})?$" % indent, line.rstrip()) and "ensures" not in line and "requires" not in line:
+                inside = True
+            if inside:
+                body += line
+                if line.rstrip() == indent + "}" or line.rstrip().endswith("{}"):
+                    yield m.group(1), head, body
+                    break
+            else:
+                head += line
+                if line.rstrip().endswith(";"):
+                    break
 
 
 def shape(body):
