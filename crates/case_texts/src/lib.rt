@@ -34,9 +34,7 @@ impl<'a> Iterator for Texts<'a> {
     ghost remaining = { λ s. at_most (length s.left.now) };
 
     fn next(&mut self) -> Option<&'a [u8]> {
-        let Some(end) = sign(self.left) else {
-            return None;
-        };
+        let end = sign(self.left)?;
         let text = &self.left[..end];
         self.left = self.left.get(end + 2..).unwrap_or(&[]);
         Some(text)
