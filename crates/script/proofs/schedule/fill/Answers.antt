@@ -1,8 +1,8 @@
-use Rattle.std.proofs.Common.{◌<◌, length, take, ap, ◌∙◌, subst, sym, arith}
+use Rattle.std.proofs.Common.{◌<◌, length, take, ap, subst, sym, arith}
 use Rattle.std.proofs.lemmas.List.{length-set, length_push}
 use Rattle.std.proofs.lemmas.Result.{err_from_is_err_and}
 use Rattle.list.specs.Held.{list_items, list_len, list_memory, list_room}
-use Rattle.list.proofs.Past.{past_push}
+use Rattle.list.proofs.Past.{rest_push}
 use Rattle.script.specs.Reads.{Reads}
 use Rattle.script.proofs.schedule.fill.Goals as goal
 
@@ -22,8 +22,7 @@ loop-event-preserved c =
     record {
       len = omega (arith, ap length items, length_push (list_items l) c.in-Some.event, inv.len, c.push.ensures.len fits);
       room = omega (arith, ap length written, length-set (list_memory l) (list_len l) c.in-Some.event, inv.room);
-      same = c.push.ensures.same ∙ inv.same;
-      past = past_push (list_len l) _ _ (list_memory l) _ c.in-Some.event (c.push.ensures.len fits) written inv.past;
+      rest = rest_push l c.push.new.self c.in-Some.event written _ (c.push.ensures.len fits) c.push.ensures.same inv.rest;
       reads = subst (λ es. Reads c.args.most (take 32768 c.args.text.now) c.in_ok-kind.kind es c.next_event.new.self) (sym items) step.0;
     }
 
