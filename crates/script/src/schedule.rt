@@ -18,7 +18,7 @@ fn survey(text: &[u8], most: usize) -> Result<Kind, Fault>
     ensures { MatchResult result (λ k. ((es : Events) × Yields most (take 32768 text.now) (Ok (k, es)))) (λ f. Yields most (take 32768 text.now) (Err f)) }
 {
     let (kind, mut read) = EventReader::open(text, most)?;
-    while let Some(_) = read.next_event()? {}
+    while read.next_event()?.is_some() {}
     Ok(kind)
 }
 
@@ -49,6 +49,6 @@ pub fn read_schedule(text: &[u8], events: &mut List<Event>) -> Result<Kind, Faul
         return Err(Fault::TooLong);
     }
     let most = events.room().min(MOST_EVENTS);
-    let _ = survey(text, most)?;
+    survey(text, most)?;
     fill(text, most, events)
 }
