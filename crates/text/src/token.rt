@@ -40,7 +40,7 @@ fn split<'a>(row: &'a [u8]) -> (&'a [u8], &'a [u8])
 }
 
 impl<'a> Reader<'a> {
-    // Reads no more of the text than may be.
+    // A reader of at most `MOST_BYTES` bytes of the text.
     pub fn new(text: &'a [u8]) -> Reader<'a>
         ensures { Opened (take 32768 text.now) result }
     {
