@@ -22,7 +22,7 @@ pub enum Token<'a> {
 }
 
 // Where the first `b` stands.
-fn find(bytes: &[u8], b: u8) -> Option<usize>
+pub fn find(bytes: &[u8], b: u8) -> Option<usize>
     ensures { result ≡ position (λ x. x == b) bytes.now }
 {
     bytes.iter().position(|x| *x == b)
