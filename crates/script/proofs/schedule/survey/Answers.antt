@@ -1,5 +1,5 @@
 use Rattle.std.proofs.Common.{◌≡◌, true, false, [], ◌∷◌, ◌++◌, take, Some, None, Option, MatchOption, is_some}
-use Rattle.std.proofs.lemmas.Result.{err_from_is_err_and}
+use Rattle.text.proofs.Exits.{exit_err}
 use Rattle.script.proofs.schedule.survey.Goals as goal
 
 -- by whether there is a value
@@ -23,8 +23,7 @@ loop-preserved c =
 
 pub returns-in_err-next_event : goal.returns-in_err-next_event
 returns-in_err-next_event c =
-    let p = err_from_is_err_and c.from_residual-in_err-next_event.result c.from_residual-in_err-next_event.ensures.1 in
-    rw (p.1, p.2) (c.in_err-next_event.ensures c.args.most (take 32768 c.args.text.now) c.in_ok-kind.kind c.loop.invariant.0 c.loop.invariant.1)
+    rw (exit_err c.from_residual-in_err-next_event.result c.from_residual-in_err-next_event.ensures.1) (c.in_err-next_event.ensures c.args.most (take 32768 c.args.text.now) c.in_ok-kind.kind c.loop.invariant.0 c.loop.invariant.1)
 
 pub returns : goal.returns
 returns c = (c.loop.invariant.0, without c.in_ok-next_event.field-0 _ _ (cc) (c.in_ok-next_event.ensures c.args.most (take 32768 c.args.text.now) c.in_ok-kind.kind c.loop.invariant.0 c.loop.invariant.1))
