@@ -11,7 +11,7 @@ use list::List;
 use text::{Fault, MOST_BYTES};
 
 // How many events a schedule may have.
-const MOST_EVENTS: usize = 1_024;
+pub const MOST_EVENTS: usize = 1_024;
 
 // What the text gives, with at most so many events. Nothing is written yet.
 fn survey(text: &[u8], most: usize) -> Result<Kind, Fault>
