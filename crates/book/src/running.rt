@@ -1,11 +1,10 @@
 // The law of a book's life: of a run of events on a new book, and of the calls that a host makes itself.
-ghost use Rattle.std.specs.Prelude.{◌≡◌, ◌<◌, length, is_ok, MatchResult, nat_le};
-ghost use Rattle.list.specs.declared.memory.Memory.TheVariants.{TooShort};
-ghost use Rattle.list.specs.Held.{KeepsRest, list_room, list_items};
+ghost use Rattle.std.specs.Prelude.{length};
+ghost use Rattle.list.specs.Held.{list_items};
 ghost use Rattle.book.specs.History.{History};
 ghost use Rattle.book.specs.Life.{Life};
 ghost use Rattle.book.specs.Law.{Law};
-ghost use Rattle.book.specs.Ran.{Ran};
+ghost use Rattle.book.specs.Ran.{Answered, Ran};
 
 use crate::{Book, Event};
 use list::{List, Memory};
@@ -17,11 +16,8 @@ pub fn run<L: Lock + Drop>(
     events: &[Event],
     answers: &mut List<'_, Result<Answer, Refusal>>,
 ) -> Result<Book<L>, Memory>
-    ensures value { is_ok result ≡ nat_le (length events.now) (list_room answers.old) }
-    ensures cases { MatchResult result
-        (λ book. ∥ Ran L.Lock events.now (list_items answers.new) book ∥₁)
-        (λ e. (e ≡ TooShort) × (answers.new ≡ answers.old)) }
-    ensures rest { KeepsRest answers.old answers.new }
+    ensures { Answered (length events.now)
+        (λ book. ∥ Ran L.Lock events.now (list_items answers.new) book ∥₁) answers.old answers.new result }
 {
     if answers.room() < events.len() {
         return Err(Memory::TooShort);

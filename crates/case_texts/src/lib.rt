@@ -3,19 +3,14 @@
 
 ghost use Rattle.std.specs.Prelude.{◌≡◌, length};
 ghost use Rattle.std.specs.Iterator.{at_most};
-ghost use Rattle.case_texts.specs.Texts.{NextText, sign_of};
+ghost use Rattle.case_texts.specs.Texts.{NextText};
+
+use text::find;
 
 // The texts of which the end was found; what comes after the last end is no text.
 #[derive(Drop)]
 pub struct Texts<'a> {
     left: &'a [u8],
-}
-
-// Where the first percent sign stands.
-fn sign(bytes: &[u8]) -> Option<usize>
-    ensures { result ≡ sign_of bytes.now }
-{
-    bytes.iter().position(|byte| *byte == b'%')
 }
 
 impl<'a> Texts<'a> {
@@ -34,9 +29,7 @@ impl<'a> Iterator for Texts<'a> {
     ghost remaining = { λ s. at_most (length s.left.now) };
 
     fn next(&mut self) -> Option<&'a [u8]> {
-        let Some(end) = sign(self.left) else {
-            return None;
-        };
+        let end = find(self.left, b'%')?;
         let text = &self.left[..end];
         self.left = self.left.get(end + 2..).unwrap_or(&[]);
         Some(text)

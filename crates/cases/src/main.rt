@@ -2,11 +2,11 @@
 #![tactic(auto)]
 
 use case_texts::Texts;
-use runner::transcribe;
+use runner::{MOST_TRANSCRIPT, transcribe};
 use std::io::{Read, Write};
 
 fn transcribed(rt: &HostRuntime, text: &[u8]) -> anyhow::Result<()> {
-    let mut memory = [0u8; 16_384];
+    let mut memory = [0u8; MOST_TRANSCRIPT];
     let size = transcribe(text, &mut memory)?;
     let mut out = rt.stdout();
     out.write_all(&memory[..size])?;

@@ -5,18 +5,18 @@
 use anyhow::Context;
 use case_texts::Texts;
 use list::Memory;
-use runner::transcribe;
+use runner::{MOST_TRANSCRIPT, transcribe};
 use std::io::{Read, Write};
 
 // The refusal of a transcript of `size` bytes where there is room for one byte less.
 fn one_byte_short(text: &[u8], size: usize) -> Option<Memory> {
-    let mut memory = [0u8; 16_384];
+    let mut memory = [0u8; MOST_TRANSCRIPT];
     let short = memory.get_mut(..size.saturating_sub(1))?;
     transcribe(text, short).err()
 }
 
 fn transcribed(rt: &HostRuntime, text: &[u8]) -> anyhow::Result<()> {
-    let mut memory = [0u8; 16_384];
+    let mut memory = [0u8; MOST_TRANSCRIPT];
     let size = transcribe(text, &mut memory)?;
     rt.stdout().write_all(&memory[..size])?;
     let refusal = one_byte_short(text, size).context("a byte less is enough")?;

@@ -16,9 +16,11 @@ pub appended_more : (a b c : Listing ℕ) (xs ys : List ℕ) → Appended a xs b
 appended_more a b c xs ys p q = record {
   longer = omega (arith, p.longer, q.longer, length-append xs ys);
   items = q.items ∙ ap (λ l. l ++ ys) p.items ∙ append_assoc (list_items a) xs ys;
-  past = q.past ∙ later (list_memory b) (list_memory a) (list_len b) (list_len c) (omega (arith, q.longer)) p.past;
+  rest = record {
+    memory = q.rest.memory ∙ later (list_memory b) (list_memory a) (list_len b) (list_len c) (omega (arith, q.longer)) p.rest.memory;
+    same = q.rest.same ∙ p.rest.same;
+  };
   room = q.room ∙ p.room;
-  same = q.same ∙ p.same;
 }
 
 kept_more : (a b c : Option (Listing ℕ)) (xs ys : List ℕ) → Kept a xs b → Kept b ys c → Kept a (xs ++ ys) c

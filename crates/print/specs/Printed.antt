@@ -1,6 +1,6 @@
 -- What printing does.
-use Rattle.std.specs.Prelude.{◌≡◌, ℕ, ◌+◌, ◌<◌, List, ◌++◌, length, drop, Some, None, Option, Result, MatchResult}
-use Rattle.list.specs.Held.{list_len, list_room, list_memory, list_items, lender}
+use Rattle.std.specs.Prelude.{◌≡◌, ℕ, ◌+◌, ◌<◌, List, ◌++◌, length, Some, None, Option, Result, MatchResult}
+use Rattle.list.specs.Held.{KeepsRest, list_len, list_room, list_items}
 use Rattle.list.specs.declared.List.{List as Listing}
 use Rattle.list.specs.declared.memory.Memory.{Memory}
 
@@ -13,9 +13,8 @@ pub record Page : Type 0 where
 pub record Appended (a : Listing ℕ) (bytes : List ℕ) (b : Listing ℕ) : Type 0 where
   pub longer : list_len b ≡ list_len a + length bytes
   pub items : list_items b ≡ list_items a ++ bytes
-  pub past : drop (list_len b) (list_memory b) ≡ drop (list_len b) (list_memory a)
+  pub rest : KeepsRest a b
   pub room : list_room b ≡ list_room a
-  pub same : lender b ≡ lender a
 
 abbrev pub Kept : Option (Listing ℕ) → List ℕ → Option (Listing ℕ) → Type 0
 Kept None bytes None = Unit {0}

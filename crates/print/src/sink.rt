@@ -2,7 +2,7 @@ ghost use Rattle.print.specs.Printed.{Page, Printed};
 
 use list::Memory;
 
-// Where text is printed to. What a refusal leaves in a sink is open: it is not used any more.
+// Where text is printed to. Nothing is said of a sink after a refusal.
 pub trait Sink {
     // How many bytes fit, and the list that takes them, if there is one.
     ghost page: { Self → Page };

@@ -1,8 +1,8 @@
 // Texts as a whole, written into the host's memory.
-ghost use Rattle.std.specs.Prelude.{◌≡◌, ℕ, ◌-◌, List as Bytes, Some, None};
+ghost use Rattle.std.specs.Prelude.{ℕ, ◌-◌, List as Bytes, Some, None};
 ghost use Rattle.list.specs.Held.{list_len, list_room};
 ghost use Rattle.print.specs.Printed.{Printed};
-ghost use Rattle.print.specs.Overwrite.{write_answer, write_memory};
+ghost use Rattle.print.specs.Overwrite.{Written};
 
 use crate::Sink;
 use list::{List, Memory};
@@ -47,8 +47,7 @@ impl Sink for List<'_, u8> {
 // Writes the text at the front of the memory, and answers its length. The bytes are counted before
 // any is written.
 pub fn write<T: Printable>(text: &T, memory: &mut [u8]) -> Result<usize, Memory>
-    ensures value { result ≡ write_answer (T.Printable.shown text.now) memory.old }
-    ensures memory { memory.new ≡ write_memory (T.Printable.shown text.now) memory.old }
+    ensures { Written (T.Printable.shown text.now) memory.old result memory.new }
 {
     let mut budget = Budget { left: memory.len() };
     text.print(&mut budget)?;

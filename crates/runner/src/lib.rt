@@ -6,4 +6,4 @@ mod running;
 mod transcribing;
 
 pub use running::{run_over, run_schedule};
-pub use transcribing::transcribe;
+pub use transcribing::{MOST_TRANSCRIPT, transcribe};

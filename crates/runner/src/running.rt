@@ -1,6 +1,6 @@
-ghost use Rattle.std.specs.Prelude.{◌≡◌, ℕ, ◌&&◌, length, is_ok, MatchResult, nat_le, nat_lt};
-ghost use Rattle.list.specs.declared.memory.Memory.TheVariants.{TooShort};
-ghost use Rattle.list.specs.Held.{KeepsRest, list_room, list_items};
+ghost use Rattle.std.specs.Prelude.{◌≡◌, ℕ, ◌&&◌, length, nat_lt};
+ghost use Rattle.list.specs.Held.{list_items};
+ghost use Rattle.book.specs.Ran.{Answered};
 ghost use Rattle.lock.specs.Rules.{place_at};
 ghost use Rattle.lock.specs.Distance.{is_inside as inside};
 ghost use Rattle.runner.specs.Ended.{IsInside, Ended, EndedBy};
@@ -35,11 +35,8 @@ pub fn run_over<L: Lock + Drop>(
     events: &[Event],
     answers: &mut List<'_, Result<Answer, Refusal>>,
 ) -> Result<Ending, Memory>
-    ensures value { is_ok result ≡ nat_le (length events.now) (list_room answers.old) }
-    ensures cases { MatchResult result
-        (λ e. ∥ Ended L.Lock events.now (list_items answers.new) e ∥₁)
-        (λ e. (e ≡ TooShort) × (answers.new ≡ answers.old)) }
-    ensures rest { KeepsRest answers.old answers.new }
+    ensures { Answered (length events.now)
+        (λ e. ∥ Ended L.Lock events.now (list_items answers.new) e ∥₁) answers.old answers.new result }
 {
     let book = run::<L>(events, answers)?;
     let inside = inside_of(&book);
@@ -58,11 +55,8 @@ pub fn run_schedule(
     events: &[Event],
     answers: &mut List<'_, Result<Answer, Refusal>>,
 ) -> Result<Ending, Memory>
-    ensures value { is_ok result ≡ nat_le (length events.now) (list_room answers.old) }
-    ensures cases { MatchResult result
-        (λ e. ∥ EndedBy kind events.now (list_items answers.new) e ∥₁)
-        (λ e. (e ≡ TooShort) × (answers.new ≡ answers.old)) }
-    ensures rest { KeepsRest answers.old answers.new }
+    ensures { Answered (length events.now)
+        (λ e. ∥ EndedBy kind events.now (list_items answers.new) e ∥₁) answers.old answers.new result }
 {
     match kind {
         Kind::Tas => run_over::<Tas>(events, answers),

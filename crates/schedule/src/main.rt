@@ -1,7 +1,7 @@
 // Reads a schedule from standard input and writes its transcript to standard output.
 #![tactic(auto)]
 
-use runner::transcribe;
+use runner::{MOST_TRANSCRIPT, transcribe};
 use std::io::{Read, Write};
 use text::MOST_BYTES;
 
@@ -10,7 +10,7 @@ fn main(rt: HostRuntime) -> anyhow::Result<()> {
     let most = MOST_BYTES as u64 + 1;
     let mut text = Vec::new(rt.alloc());
     rt.stdin().take(most).read_to_end(&mut text)?;
-    let mut memory = [0u8; 16_384];
+    let mut memory = [0u8; MOST_TRANSCRIPT];
     let size = transcribe(&text, &mut memory)?;
     rt.stdout().write_all(&memory[..size])?;
     Ok(())

@@ -10,5 +10,5 @@ mod written;
 
 pub use kind::Kind;
 pub use round::round_trip;
-pub use schedule::read_schedule;
+pub use schedule::{MOST_EVENTS, read_schedule};
 pub use written::{Schedule, write_schedule};

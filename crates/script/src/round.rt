@@ -1,5 +1,5 @@
 ghost use Rattle.std.specs.Prelude.{◌≡◌, ◌<◌, length, IfOk, Ok, OnErr};
-ghost use Rattle.list.specs.Held.{list_items, list_room, lender};
+ghost use Rattle.list.specs.Held.{KeepsRest, list_items, list_room};
 ghost use Rattle.print.specs.Overwrite.{write_memory};
 ghost use Rattle.script.specs.Schedule.{Gives, IsSchedule, told};
 ghost use Rattle.script.specs.Written.{written};
@@ -20,7 +20,7 @@ pub fn round_trip(
     ensures law { IfOk result (λ x. IsSchedule (list_room events.old) (written schedule.now) schedule.now.kind schedule.now.events.now → (x ≡ Ok schedule.now.kind) × (list_items events.new ≡ schedule.now.events.now)) }
     ensures memory { memory.new ≡ write_memory (written schedule.now) memory.old }
     ensures refused { OnErr result ((length memory.old < length (written schedule.now)) × (events.new ≡ events.old)) }
-    ensures same { lender events.new ≡ lender events.old }
+    ensures rest { KeepsRest events.old events.new }
 {
     let len = write_schedule(schedule, memory)?;
     Ok(read_schedule(&memory[0..len], events))

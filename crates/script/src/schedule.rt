@@ -1,5 +1,5 @@
-ghost use Rattle.std.specs.Prelude.{◌≡◌, ◌≤◌, take, drop, IfOk, Ok, Err, MatchResult, OnErr, OnOk};
-ghost use Rattle.list.specs.Held.{list_items, list_len, list_memory, list_room, lender};
+ghost use Rattle.std.specs.Prelude.{◌≡◌, ◌≤◌, take, IfOk, Ok, Err, MatchResult, OnErr};
+ghost use Rattle.list.specs.Held.{KeepsRest, list_items, list_room};
 ghost use Rattle.script.specs.Schedule.{Gives, IsSchedule, told};
 ghost use Rattle.script.specs.Stages.{Events};
 ghost use Rattle.script.specs.Verdicts.{Verdict, Yields};
@@ -11,14 +11,14 @@ use list::List;
 use text::{Fault, MOST_BYTES};
 
 // How many events a schedule may have.
-const MOST_EVENTS: usize = 1_024;
+pub const MOST_EVENTS: usize = 1_024;
 
 // What the text gives, with at most so many events. Nothing is written yet.
 fn survey(text: &[u8], most: usize) -> Result<Kind, Fault>
     ensures { MatchResult result (λ k. ((es : Events) × Yields most (take 32768 text.now) (Ok (k, es)))) (λ f. Yields most (take 32768 text.now) (Err f)) }
 {
     let (kind, mut read) = EventReader::open(text, most)?;
-    while let Some(_) = read.next_event()? {}
+    while read.next_event()?.is_some() {}
     Ok(kind)
 }
 
@@ -26,8 +26,7 @@ fn survey(text: &[u8], most: usize) -> Result<Kind, Fault>
 fn fill(text: &[u8], most: usize, events: &mut List<Event>) -> Result<Kind, Fault>
     requires { most ≤ list_room events.old }
     ensures value { Yields most (take 32768 text.now) (told result (list_items events.new)) }
-    ensures memory { drop (list_len events.new) (list_memory events.new) ≡ drop (list_len events.new) (list_memory events.old) }
-    ensures same { lender events.new ≡ lender events.old }
+    ensures rest { KeepsRest events.old events.new }
 {
     let (kind, mut read) = EventReader::open(text, most)?;
     events.clear();
@@ -43,14 +42,13 @@ pub fn read_schedule(text: &[u8], events: &mut List<Event>) -> Result<Kind, Faul
     ensures only { (v : Verdict) → Gives (list_room events.old) text.now v → v ≡ told result (list_items events.new) }
     ensures form { IfOk result (λ k. IsSchedule (list_room events.old) text.now k (list_items events.new)) }
     ensures complete { (k : Kind) (es : Events) → IsSchedule (list_room events.old) text.now k es → (result ≡ Ok k) × (list_items events.new ≡ es) }
-    ensures memory { OnOk result (drop (list_len events.new) (list_memory events.new) ≡ drop (list_len events.new) (list_memory events.old)) }
     ensures refused { OnErr result (events.new ≡ events.old) }
-    ensures same { lender events.new ≡ lender events.old }
+    ensures rest { KeepsRest events.old events.new }
 {
     if text.len() > MOST_BYTES {
         return Err(Fault::TooLong);
     }
     let most = events.room().min(MOST_EVENTS);
-    let _ = survey(text, most)?;
+    survey(text, most)?;
     fill(text, most, events)
 }

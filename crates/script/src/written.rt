@@ -1,6 +1,6 @@
 ghost use Rattle.std.specs.Prelude.{◌≡◌, length};
 ghost use Rattle.std.specs.List.{flat_map};
-ghost use Rattle.print.specs.Overwrite.{write_answer, write_memory};
+ghost use Rattle.print.specs.Overwrite.{Written};
 ghost use Rattle.print.specs.Printed.{Printed};
 ghost use Rattle.script.specs.Written.{call_text, event_text, look_text, schedule_text, written};
 
@@ -69,8 +69,7 @@ impl Printable for Schedule<'_> {
 
 // Writes a schedule at the front of the memory, and answers its length.
 pub fn write_schedule(schedule: &Schedule, memory: &mut [u8]) -> Result<usize, Memory>
-    ensures value { result ≡ write_answer (written schedule.now) memory.old }
-    ensures memory { memory.new ≡ write_memory (written schedule.now) memory.old }
+    ensures { Written (written schedule.now) memory.old result memory.new }
 {
     write(schedule, memory)
 }

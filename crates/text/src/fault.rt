@@ -33,7 +33,7 @@ impl Fault {
         }
     }
 
-    // 0 for the whole text.
+    // The line of the fault, 0 for the whole text.
     pub fn line(self) -> u32
         ensures { result ≡ fault_line self }
     {

@@ -10,4 +10,4 @@ mod token;
 pub use fault::Fault;
 pub use number::number_in;
 pub use reader::{MOST_BYTES, Reader};
-pub use token::Token;
+pub use token::{Token, find};

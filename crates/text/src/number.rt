@@ -15,6 +15,6 @@ pub fn number_in(value: &[u8], max: u32) -> Option<u32>
     if !is_plain(value) {
         return None;
     }
-    let n = std::str::from_utf8(value).ok()?.parse::<u32>().ok()?;
-    if n <= max { Some(n) } else { None }
+    let text = std::str::from_utf8(value).ok()?;
+    text.parse().ok().filter(|n| *n <= max)
 }

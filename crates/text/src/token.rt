@@ -22,7 +22,7 @@ pub enum Token<'a> {
 }
 
 // Where the first `b` stands.
-fn find(bytes: &[u8], b: u8) -> Option<usize>
+pub fn find(bytes: &[u8], b: u8) -> Option<usize>
     ensures { result ≡ position (λ x. x == b) bytes.now }
 {
     bytes.iter().position(|x| *x == b)
@@ -40,7 +40,7 @@ fn split<'a>(row: &'a [u8]) -> (&'a [u8], &'a [u8])
 }
 
 impl<'a> Reader<'a> {
-    // Reads no more of the text than may be.
+    // A reader of at most `MOST_BYTES` bytes of the text.
     pub fn new(text: &'a [u8]) -> Reader<'a>
         ensures { Opened (take 32768 text.now) result }
     {

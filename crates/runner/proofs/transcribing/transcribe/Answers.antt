@@ -10,5 +10,5 @@ returns-in-Ok c =
 
 pub returns-in-Err : goal.returns-in-Err
 returns-in-Err c =
-    let w = turned_down _ _ _ c.args.text.now _ c.in-Err.fault (ap length c.new-events.ensures.memory) c.in-Err.ensures.value c.write_fault.ensures.value c.write_fault.ensures.memory in
+    let w = turned_down _ _ _ c.args.text.now _ c.in-Err.fault (ap length c.new-events.ensures.memory) c.in-Err.ensures.value c.write_fault.ensures in
     record { wrote = ∣ w ∣₁; fits = fits _ _ _ _ ∣ w ∣₁ }

@@ -1,5 +1,6 @@
 use Rattle.std.proofs.Common.{◌≡◌, ℕ, List, codes, refl, rules}
-use Rattle.std.proofs.lemmas.Result.{err_from_is_err_and, MatchResult-weaker}
+use Rattle.std.proofs.lemmas.Result.{MatchResult-weaker}
+use Rattle.text.proofs.Exits.{exit_err}
 use Rattle.book.specs.declared.call.Call.{Call}
 use Rattle.book.specs.declared.call.Call.TheVariants.{Lock, Unlock, Step, Look, Enter}
 use Rattle.book.specs.declared.call.Event.{Event}
@@ -11,8 +12,7 @@ use Rattle.script.proofs.event.read_call.Goals as goal
 
 pub returns-in_err-name : goal.returns-in_err-name
 returns-in_err-name c most k es w =
-    let p = err_from_is_err_and c.from_residual.result c.from_residual.ensures.1 in
-    rw (p.1, p.2) (no_line most (at_call k es w) c.args.reader.now _ (λ e. refl) c.in_err-name.ensures.value)
+    rw (exit_err c.from_residual.result c.from_residual.ensures.1) (no_line most (at_call k es w) c.args.reader.now _ (λ e. refl) c.in_err-name.ensures.value)
 
 pub returns-then-eq : goal.returns-then-eq
 returns-then-eq c most k es w =

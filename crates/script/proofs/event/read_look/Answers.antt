@@ -1,20 +1,18 @@
 use Rattle.std.proofs.Common.{refl}
-use Rattle.std.proofs.lemmas.Result.{err_from_is_err_and}
+use Rattle.text.proofs.Exits.{exit_err}
 use Rattle.script.specs.Stages.{at_chest, at_grams}
 use Rattle.script.proofs.Steps.{passes, onward, stops, no_number, chest_read}
 use Rattle.script.proofs.event.read_look.Goals as goal
 
 pub returns-in_err-chest : goal.returns-in_err-chest
 returns-in_err-chest c most k es w =
-    let p = err_from_is_err_and c.from_residual.result c.from_residual.ensures.1 in
-    rw (p.1, p.2) (no_number most (at_chest k es w) c.args.reader.now _ 4294967295 (λ e. refl) (λ v a. (a.1.0, a.1.1, a.1.2)) c.in_err-chest.ensures.value)
+    rw (exit_err c.from_residual.result c.from_residual.ensures.1) (no_number most (at_chest k es w) c.args.reader.now _ 4294967295 (λ e. refl) (λ v a. (a.1.0, a.1.1, a.1.2)) c.in_err-chest.ensures.value)
 
 pub returns-in_err-grams : goal.returns-in_err-grams
 returns-in_err-grams c most k es w =
-    let p = err_from_is_err_and c.from_residual-in_err-grams.result c.from_residual-in_err-grams.ensures.1 in
     let n = c.in_ok-chest.ensures.value in
     let s = at_grams k es w c.in_ok-chest.chest in
-    rw (p.1, p.2) (stops most (at_chest k es w) c.args.reader.now s c.number.new.self _ (chest_read most k es w _ _ c.in_ok-chest.chest n.0 n.1)
+    rw (exit_err c.from_residual-in_err-grams.result c.from_residual-in_err-grams.ensures.1) (stops most (at_chest k es w) c.args.reader.now s c.number.new.self _ (chest_read most k es w _ _ c.in_ok-chest.chest n.0 n.1)
     (no_number most s c.number.new.self _ 4294967295 (λ e. refl) (λ v a. (a.1.0, a.1.1, a.1.2)) c.in_err-grams.ensures.value))
 
 pub returns : goal.returns

@@ -1,5 +1,5 @@
 use Rattle.std.proofs.Common.{◌≡◌, [], refl}
-use Rattle.std.proofs.lemmas.Result.{err_from_is_err_and}
+use Rattle.text.proofs.Exits.{exit_err}
 use Rattle.script.specs.Stages.{at_lock, at_worker}
 use Rattle.script.specs.Names.{kind_name}
 use Rattle.script.specs.declared.kind.Kind.{Kind}
@@ -8,8 +8,7 @@ use Rattle.script.proofs.events.read_kind.Goals as goal
 
 pub returns-in_err-name : goal.returns-in_err-name
 returns-in_err-name c most =
-    let p = err_from_is_err_and c.from_residual.result c.from_residual.ensures.1 in
-    rw (p.1, p.2) (no_line most at_lock c.args.reader.now _ (λ e. refl) c.in_err-name.ensures.value)
+    rw (exit_err c.from_residual.result c.from_residual.ensures.1) (no_line most at_lock c.args.reader.now _ (λ e. refl) c.in_err-name.ensures.value)
 
 pub returns : goal.returns
 returns c most =

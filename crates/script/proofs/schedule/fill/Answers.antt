@@ -1,15 +1,14 @@
-use Rattle.std.proofs.Common.{◌<◌, length, take, ap, ◌∙◌, subst, sym, arith}
+use Rattle.std.proofs.Common.{◌<◌, length, take, ap, subst, sym, arith}
 use Rattle.std.proofs.lemmas.List.{length-set, length_push}
-use Rattle.std.proofs.lemmas.Result.{err_from_is_err_and}
+use Rattle.text.proofs.Exits.{exit_err}
 use Rattle.list.specs.Held.{list_items, list_len, list_memory, list_room}
-use Rattle.list.proofs.Past.{past_push}
+use Rattle.list.proofs.Past.{rest_push}
 use Rattle.script.specs.Reads.{Reads}
 use Rattle.script.proofs.schedule.fill.Goals as goal
 
 pub returns-in_err-event-clause-value : goal.returns-in_err-event-clause-value
 returns-in_err-event-clause-value c =
-    let p = err_from_is_err_and c.from_residual-in_err-event.result c.from_residual-in_err-event.ensures.1 in
-    rw (p.1, p.2) (c.in_err-event.ensures c.args.most (take 32768 c.args.text.now) c.in_ok-kind.kind _ c.loop-event.invariant.reads)
+    rw (exit_err c.from_residual-in_err-event.result c.from_residual-in_err-event.ensures.1) (c.in_err-event.ensures c.args.most (take 32768 c.args.text.now) c.in_ok-kind.kind _ c.loop-event.invariant.reads)
 
 pub loop-event-preserved : goal.loop-event-preserved
 loop-event-preserved c =
@@ -22,8 +21,7 @@ loop-event-preserved c =
     record {
       len = omega (arith, ap length items, length_push (list_items l) c.in-Some.event, inv.len, c.push.ensures.len fits);
       room = omega (arith, ap length written, length-set (list_memory l) (list_len l) c.in-Some.event, inv.room);
-      same = c.push.ensures.same ∙ inv.same;
-      past = past_push (list_len l) _ _ (list_memory l) _ c.in-Some.event (c.push.ensures.len fits) written inv.past;
+      rest = rest_push l c.push.new.self c.in-Some.event written _ (c.push.ensures.len fits) c.push.ensures.same inv.rest;
       reads = subst (λ es. Reads c.args.most (take 32768 c.args.text.now) c.in_ok-kind.kind es c.next_event.new.self) (sym items) step.0;
     }
 

@@ -1,5 +1,5 @@
-use Rattle.std.proofs.Common.{◌≡◌, ◌≤◌, length, take, drop}
-use Rattle.list.specs.Held.{list_items, list_len, list_memory, list_room, lender}
+use Rattle.std.proofs.Common.{◌≡◌, ◌≤◌, length, take}
+use Rattle.list.specs.Held.{KeepsRest, list_items, list_len, list_room}
 use Rattle.text.specs.Ahead.{ahead}
 use Rattle.script.specs.Reads.{Reads}
 use Rattle.script.proofs.schedule.fill.Given as goal
@@ -8,8 +8,7 @@ abbrev pub invariant-loop-event : goal.invariant-loop-event
 invariant-loop-event l = record {
   len : length (list_items l.events) ≡ list_len l.events;
   room : l.most ≤ list_room l.events;
-  same : lender l.events ≡ lender l.initial.events;
-  past : drop (list_len l.events) (list_memory l.events) ≡ drop (list_len l.events) (list_memory l.initial.events);
+  rest : KeepsRest l.fn.events l.events;
   reads : Reads l.most (take 32768 l.text) l.kind (list_items l.events) l.read;
 }
 

@@ -1,6 +1,6 @@
 use Rattle.std.proofs.Common.{◌≡◌, ℕ, ◌≤◌, min, List, length, take, IfErr, Ok, Err, Result, ap, ◌∙◌, subst}
 use Rattle.std.proofs.lemmas.List.{take_all}
-use Rattle.std.proofs.lemmas.Result.{err_from_is_err_and}
+use Rattle.text.proofs.Exits.{exit_err}
 use Rattle.list.specs.Held.{list_items}
 use Rattle.text.specs.Lines.{lines}
 use Rattle.text.specs.declared.fault.Fault.{Fault}
@@ -22,8 +22,7 @@ never_refused (Err f) P k e = cc e
 
 pub returns-in_err-survey-clause-value : goal.returns-in_err-survey-clause-value
 returns-in_err-survey-clause-value c =
-    let p = err_from_is_err_and c.from_residual.result c.from_residual.ensures.1 in
-    rw (p.1, p.2) (limits _ _ c.min-most.result _ c.if-text-gt-MOST_BYTES.false (c.min-most.ensures ∙ ap (λ n. min n 1024) c.room.ensures) c.in_err-survey.ensures)
+    rw (exit_err c.from_residual.result c.from_residual.ensures.1) (limits _ _ c.min-most.result _ c.if-text-gt-MOST_BYTES.false (c.min-most.ensures ∙ ap (λ n. min n 1024) c.room.ensures) c.in_err-survey.ensures)
 
 pub returns-in_err-survey-clause-only : goal.returns-in_err-survey-clause-only
 returns-in_err-survey-clause-only c v h = only _ _ _ v (returns-in_err-survey-clause-value c) h

@@ -1,6 +1,6 @@
 use Rattle.std.proofs.Common.{get_or, take, subst}
 use Rattle.std.specs.List.{flat_map}
-use Rattle.std.proofs.lemmas.Result.{err_from_is_err_and}
+use Rattle.text.proofs.Exits.{exit_err}
 use Rattle.book.specs.declared.call.Call.TheVariants.{Lock}
 use Rattle.book.specs.declared.call.Event.{Event}
 use Rattle.print.specs.Printed.{Prints}
@@ -15,10 +15,9 @@ unread = record { worker = 0; call = Lock }
 
 pub returns-in_err-put_event : goal.returns-in_err-put_event
 returns-in_err-put_event g c =
-    let p = err_from_is_err_and c.from_residual.result c.from_residual.ensures.1 in
     let page = g.S.Sink.page in
     let xs = c.args.events.now in
-    rw p.1 (joined_short (page c.args.sink.now) (page c.loop-event.sink) event_text xs c.loop-event.event-index unread c.loop-event-test.true c.loop-event.invariant c.in_err-put_event.ensures)
+    rw (exit_err c.from_residual.result c.from_residual.ensures.1) (joined_short (page c.args.sink.now) (page c.loop-event.sink) event_text xs c.loop-event.event-index unread c.loop-event-test.true c.loop-event.invariant c.in_err-put_event.ensures)
 
 pub loop-event-preserved : goal.loop-event-preserved
 loop-event-preserved g c =

@@ -1,6 +1,6 @@
 use Rattle.std.proofs.Common.{◌++◌, length, take, Ok, codes, decimal, ap, ◌∙◌, subst, arith}
 use Rattle.std.specs.List.{flat_map}
-use Rattle.std.proofs.lemmas.Result.{err_from_is_err_and}
+use Rattle.text.proofs.Exits.{exit_err}
 use Rattle.lock.specs.declared.answer.Answer.TheVariants.{Done}
 use Rattle.text.specs.Lines.{line_text}
 use Rattle.print.specs.Printed.{Prints}
@@ -11,10 +11,9 @@ use Rattle.transcript.proofs.answers.put_answers.Goals as goal
 
 pub returns-in_err-put_number_line : goal.returns-in_err-put_number_line
 returns-in_err-put_number_line g c =
-    let p = err_from_is_err_and c.from_residual.result c.from_residual.ensures.1 in
     let page = g.S.Sink.page in
     let same = ap (λ n. length (line_text (codes "answer") (decimal n))) c.outcome_number.ensures in
-    rw p.1 (joined_short (page c.args.sink.now) (page c.loop-answer.sink) answer_text c.args.answers.now c.loop-answer.answer-index (Ok Done) c.loop-answer-test.true c.loop-answer.invariant (omega (arith, c.in_err-put_number_line.ensures, same)))
+    rw (exit_err c.from_residual.result c.from_residual.ensures.1) (joined_short (page c.args.sink.now) (page c.loop-answer.sink) answer_text c.args.answers.now c.loop-answer.answer-index (Ok Done) c.loop-answer-test.true c.loop-answer.invariant (omega (arith, c.in_err-put_number_line.ensures, same)))
 
 pub loop-answer-preserved : goal.loop-answer-preserved
 loop-answer-preserved g c =
