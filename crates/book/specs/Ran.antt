@@ -22,7 +22,7 @@ pub record Ran {S : Type 0} (lock : Ghosts S) (es : List Event) (rs : List (Resu
   pub law : Law lock history book
 
 -- where the list has room for n answers, what is returned is so; else the list is refused and as it was. The memory past its items is as it was
-pub record Answered {A R : Type 0} (n : ℕ) (IsSo : R → Type 0) (before after : Listing A) (r : Result R Memory) : Type 0 where
+pub record IfRoom {A R : Type 0} (n : ℕ) (IsSo : R → Type 0) (before after : Listing A) (r : Result R Memory) : Type 0 where
   pub value : is_ok r ≡ nat_le n (list_room before)
   pub cases : MatchResult r IsSo (λ e. (e ≡ TooShort) × (after ≡ before))
   pub rest : KeepsRest before after

@@ -4,7 +4,7 @@ ghost use Rattle.list.specs.Held.{list_items};
 ghost use Rattle.book.specs.History.{History};
 ghost use Rattle.book.specs.Life.{Life};
 ghost use Rattle.book.specs.Law.{Law};
-ghost use Rattle.book.specs.Ran.{Answered, Ran};
+ghost use Rattle.book.specs.Ran.{IfRoom, Ran};
 
 use crate::{Book, Event};
 use list::{List, Memory};
@@ -16,7 +16,7 @@ pub fn run<L: Lock + Drop>(
     events: &[Event],
     answers: &mut List<'_, Result<Answer, Refusal>>,
 ) -> Result<Book<L>, Memory>
-    ensures { Answered (length events.now)
+    ensures { IfRoom (length events.now)
         (λ book. ∥ Ran L.Lock events.now (list_items answers.new) book ∥₁) answers.old answers.new result }
 {
     if answers.room() < events.len() {

@@ -1,6 +1,6 @@
 ghost use Rattle.std.specs.Prelude.{◌≡◌, ℕ, ◌&&◌, length, nat_lt};
 ghost use Rattle.list.specs.Held.{list_items};
-ghost use Rattle.book.specs.Ran.{Answered};
+ghost use Rattle.book.specs.Ran.{IfRoom};
 ghost use Rattle.lock.specs.Rules.{place_at};
 ghost use Rattle.lock.specs.Distance.{is_inside as inside};
 ghost use Rattle.runner.specs.Ended.{IsInside, Ended, EndedBy};
@@ -35,7 +35,7 @@ pub fn run_over<L: Lock + Drop>(
     events: &[Event],
     answers: &mut List<'_, Result<Answer, Refusal>>,
 ) -> Result<Ending, Memory>
-    ensures { Answered (length events.now)
+    ensures { IfRoom (length events.now)
         (λ e. ∥ Ended L.Lock events.now (list_items answers.new) e ∥₁) answers.old answers.new result }
 {
     let book = run::<L>(events, answers)?;
@@ -55,7 +55,7 @@ pub fn run_schedule(
     events: &[Event],
     answers: &mut List<'_, Result<Answer, Refusal>>,
 ) -> Result<Ending, Memory>
-    ensures { Answered (length events.now)
+    ensures { IfRoom (length events.now)
         (λ e. ∥ EndedBy kind events.now (list_items answers.new) e ∥₁) answers.old answers.new result }
 {
     match kind {
