@@ -12,6 +12,6 @@ abbrev pub write_memory : List ℕ → List ℕ → List ℕ
 write_memory text memory = if nat_le (length text) (length memory) then text ++ drop (length text) memory else memory
 
 -- the text is written into the memory, and the answer says how
-pub record Written (text before : List ℕ) (r : Result ℕ Memory) (after : List ℕ) : Type 0 where
+pub record Overwrites (text before : List ℕ) (r : Result ℕ Memory) (after : List ℕ) : Type 0 where
   pub value : r ≡ write_answer text before
   pub memory : after ≡ write_memory text before

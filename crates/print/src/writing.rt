@@ -2,7 +2,7 @@
 ghost use Rattle.std.specs.Prelude.{ℕ, ◌-◌, List as Bytes, Some, None};
 ghost use Rattle.list.specs.Held.{list_len, list_room};
 ghost use Rattle.print.specs.Printed.{Printed};
-ghost use Rattle.print.specs.Overwrite.{Written};
+ghost use Rattle.print.specs.Overwrite.{Overwrites};
 
 use crate::Sink;
 use list::{List, Memory};
@@ -47,7 +47,7 @@ impl Sink for List<'_, u8> {
 // Writes the text at the front of the memory, and answers its length. The bytes are counted before
 // any is written.
 pub fn write<T: Printable>(text: &T, memory: &mut [u8]) -> Result<usize, Memory>
-    ensures { Written (T.Printable.shown text.now) memory.old result memory.new }
+    ensures { Overwrites (T.Printable.shown text.now) memory.old result memory.new }
 {
     let mut budget = Budget { left: memory.len() };
     text.print(&mut budget)?;

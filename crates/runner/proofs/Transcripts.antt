@@ -8,7 +8,7 @@ use Rattle.lock.specs.declared.answer.Answer.{Answer}
 use Rattle.lock.specs.declared.refusal.Refusal.{Refusal}
 use Rattle.book.specs.declared.call.Event.{Event}
 use Rattle.text.specs.declared.fault.Fault.{Fault}
-use Rattle.print.specs.Overwrite.{Written}
+use Rattle.print.specs.Overwrite.{Overwrites}
 use Rattle.script.specs.declared.kind.Kind.{Kind}
 use Rattle.script.specs.Schedule.{Gives}
 use Rattle.transcript.specs.declared.state.Ending.{Ending}
@@ -18,7 +18,7 @@ use Rattle.runner.specs.Transcribed.{Performed, Transcribes, Wrote}
 
 module _ (r : Result ℕ Memory) (before after : List ℕ) where
   pub performed : (k : Kind) (es : List Event) (items slice : List (Result Answer Refusal)) (e : Ending) → slice ≡ items → EndedBy k es items e
-      → Written (run_text slice e) before r after → Wrote (Performed k es) r before after
+      → Overwrites (run_text slice e) before r after → Wrote (Performed k es) r before after
   performed k es items slice e same ended written = record {
     bytes = run_text slice e;
     right = record { answers = items; ending = e; ended = ended; text = ap (λ x. run_text x e) same };
@@ -32,7 +32,7 @@ module _ (r : Result ℕ Memory) (before after : List ℕ) where
     written = p.written;
   }
 
-  pub turned_down : (text : List ℕ) (room : ℕ) (f : Fault) → room ≡ 1024 → Gives room text (Err f) → Written (fault_text f) before r after → Wrote (Transcribes text) r before after
+  pub turned_down : (text : List ℕ) (room : ℕ) (f : Fault) → room ≡ 1024 → Gives room text (Err f) → Overwrites (fault_text f) before r after → Wrote (Transcribes text) r before after
   turned_down text room f full gives written = record {
     bytes = fault_text f;
     right = inl (f, subst (λ n. Gives n text (Err f)) full gives, refl);

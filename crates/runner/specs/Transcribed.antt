@@ -4,7 +4,7 @@ use Rattle.lock.specs.declared.answer.Answer.{Answer}
 use Rattle.lock.specs.declared.refusal.Refusal.{Refusal}
 use Rattle.book.specs.declared.call.Event.{Event}
 use Rattle.list.specs.declared.memory.Memory.{Memory}
-use Rattle.print.specs.Overwrite.{Written}
+use Rattle.print.specs.Overwrite.{Overwrites}
 use Rattle.text.specs.declared.fault.Fault.{Fault}
 use Rattle.script.specs.declared.kind.Kind.{Kind}
 use Rattle.script.specs.Schedule.{Gives}
@@ -29,4 +29,4 @@ Transcribes text bytes =
 pub record Wrote (P : List ℕ → Type 0) (r : Result ℕ Memory) (before after : List ℕ) : Type 0 where
   pub bytes : List ℕ
   pub right : P bytes
-  pub written : Written bytes before r after
+  pub written : Overwrites bytes before r after

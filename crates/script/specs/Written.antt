@@ -25,5 +25,5 @@ event_text e = line_text (codes "worker") (decimal e.worker) ++ call_text e.call
 abbrev pub schedule_text : Kind → List Event → List ℕ
 schedule_text k es = line_text (codes "lock") (kind_name k) ++ flat_map event_text es
 
-abbrev pub written : Schedule → List ℕ
-written s = schedule_text s.kind s.events.now
+abbrev pub text_of : Schedule → List ℕ
+text_of s = schedule_text s.kind s.events.now

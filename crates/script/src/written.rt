@@ -1,8 +1,8 @@
 ghost use Rattle.std.specs.Prelude.{◌≡◌, length};
 ghost use Rattle.std.specs.List.{flat_map};
-ghost use Rattle.print.specs.Overwrite.{Written};
+ghost use Rattle.print.specs.Overwrite.{Overwrites};
 ghost use Rattle.print.specs.Printed.{Printed};
-ghost use Rattle.script.specs.Written.{call_text, event_text, look_text, schedule_text, written};
+ghost use Rattle.script.specs.Written.{call_text, event_text, look_text, schedule_text, text_of};
 
 use crate::Kind;
 use book::{Call, Event};
@@ -60,7 +60,7 @@ fn put_schedule<S: Sink>(sink: &mut S, kind: Kind, events: &[Event]) -> Result<(
 }
 
 impl Printable for Schedule<'_> {
-    ghost shown = { written };
+    ghost shown = { text_of };
 
     fn print<S: Sink>(&self, sink: &mut S) -> Result<(), Memory> {
         put_schedule(sink, self.kind, self.events)
@@ -69,7 +69,7 @@ impl Printable for Schedule<'_> {
 
 // Writes a schedule at the front of the memory, and answers its length.
 pub fn write_schedule(schedule: &Schedule, memory: &mut [u8]) -> Result<usize, Memory>
-    ensures { Written (written schedule.now) memory.old result memory.new }
+    ensures { Overwrites (text_of schedule.now) memory.old result memory.new }
 {
     write(schedule, memory)
 }

@@ -1,6 +1,6 @@
 ghost use Rattle.std.specs.Prelude.{◌≡◌};
 ghost use Rattle.std.specs.List.{flat_map};
-ghost use Rattle.print.specs.Overwrite.{Written};
+ghost use Rattle.print.specs.Overwrite.{Overwrites};
 ghost use Rattle.print.specs.Printed.{Printed};
 ghost use Rattle.transcript.specs.Transcribed.{answer_text, ending_text, fault_text, inside_text, misuses, run_text};
 
@@ -83,14 +83,14 @@ impl Printable for Refused {
 
 // Writes the transcript of a run at the front of the memory, and answers its length.
 pub fn write_transcript(transcript: &Transcript, memory: &mut [u8]) -> Result<usize, Memory>
-    ensures { Written (run_text transcript.now.answers.now transcript.now.ending) memory.old result memory.new }
+    ensures { Overwrites (run_text transcript.now.answers.now transcript.now.ending) memory.old result memory.new }
 {
     write(transcript, memory)
 }
 
 // Writes the transcript of a refused text likewise.
 pub fn write_fault(fault: Fault, memory: &mut [u8]) -> Result<usize, Memory>
-    ensures { Written (fault_text fault) memory.old result memory.new }
+    ensures { Overwrites (fault_text fault) memory.old result memory.new }
 {
     write(&Refused { fault }, memory)
 }
