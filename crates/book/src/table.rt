@@ -55,9 +55,9 @@ impl Table {
     fn has(&self, chest: u32) -> bool
         ensures { result ≡ holds (records_of self.now) chest }
     {
-        self.records
+        let all = self.records.as_slice();
+        all[..self.len.min(all.len())]
             .iter()
-            .take(self.len)
             .any(|record| record.chest == chest)
     }
 

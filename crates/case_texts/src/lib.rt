@@ -3,7 +3,7 @@
 
 ghost use Rattle.std.specs.Prelude.{◌≡◌, length};
 ghost use Rattle.std.specs.Iterator.{at_most};
-ghost use Rattle.case_texts.specs.Texts.{NextText};
+ghost use Rattle.case_texts.specs.Texts.{NextText, text_start};
 
 use text::find;
 
@@ -21,6 +21,16 @@ impl<'a> Texts<'a> {
     }
 }
 
+// What is left after a sign, from where the next text starts.
+fn next_start(rest: &[u8]) -> &[u8]
+    ensures { result.now ≡ text_start rest.now }
+{
+    match rest {
+        [] | [b'%', ..] => rest,
+        [_, text @ ..] => text,
+    }
+}
+
 impl<'a> Iterator for Texts<'a> {
     type Item = &'a [u8];
 
@@ -31,7 +41,7 @@ impl<'a> Iterator for Texts<'a> {
     fn next(&mut self) -> Option<&'a [u8]> {
         let end = find(self.left, b'%')?;
         let text = &self.left[..end];
-        self.left = self.left.get(end + 2..).unwrap_or(&[]);
+        self.left = next_start(&self.left[end + 1..]);
         Some(text)
     }
 }

@@ -1,4 +1,4 @@
--- Every word of the clh lock after every call.
+-- Every word of the clh lock after every call that is let through; `lock/specs/Calls.antt` says which calls are.
 use Rattle.std.specs.Prelude.{ℕ, Bool, true, false, if◌then◌else◌, map, replicate, is_some, Some, None, Ok, Err, Option, slice_index_or, slice_set, refl}
 use Rattle.std.specs.List.{range_with_len}
 use Rattle.std.specs.Option.{unwrap_or}

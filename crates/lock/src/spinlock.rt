@@ -95,8 +95,10 @@ impl<A: Ruled> Lock for Spinlock<A> {
     fn place(&self, w: u8) -> Result<Place, Refusal>
         ensures { result ≡ place_answer (A.place_of self.now.words) w }
     {
+        // The place before the test of the number, so that the number is compared once when it runs.
+        let place = self.words.place_of(w);
         index_of(w)?;
-        Ok(self.words.place_of(w))
+        Ok(place)
     }
 
     fn due(&self) -> Option<(u8, u32)> {

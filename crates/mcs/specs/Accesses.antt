@@ -1,4 +1,4 @@
--- Every word of the mcs lock after every call.
+-- Every word of the mcs lock after every call that is let through; `lock/specs/Calls.antt` says which calls are.
 use Rattle.std.specs.Prelude.{ℕ, Bool, true, false, if◌then◌else◌, replicate, Some, None, Ok, Err, Option, Result, ◌==◌, slice_index_or, slice_set, refl}
 use Rattle.lock.specs.declared.place.Place.{Place}
 use Rattle.lock.specs.declared.place.Place.TheVariants as places

@@ -2,16 +2,20 @@
 #![tactic(auto)]
 
 use runner::{MOST_TRANSCRIPT, transcribe};
+use std::io;
 use std::io::{Read, Write};
 use text::MOST_BYTES;
 
 fn main(rt: HostRuntime) -> anyhow::Result<()> {
-    // One byte more than a text may have: what comes after it changes nothing.
-    let most = MOST_BYTES as u64 + 1;
-    let mut text = Vec::new(rt.alloc());
-    rt.stdin().take(most).read_to_end(&mut text)?;
+    // One byte more than a text may have: what comes after it changes nothing. An array, which no lack
+    // of memory refuses.
+    let mut text = [0u8; MOST_BYTES + 1];
+    let most = text.len();
+    let mut room = text.as_mut_slice();
+    io::copy(&mut rt.stdin().take(most as u64), &mut room)?;
+    let len = most.saturating_sub(room.len());
     let mut memory = [0u8; MOST_TRANSCRIPT];
-    let size = transcribe(&text, &mut memory)?;
+    let size = transcribe(&text[..len], &mut memory)?;
     rt.stdout().write_all(&memory[..size])?;
     Ok(())
 }

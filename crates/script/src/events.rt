@@ -34,8 +34,8 @@ impl<'a> EventReader<'a> {
         Ok((kind, EventReader { reader, room: most }))
     }
 
-    // The next event, if there is one. No `Iterator`: one has to come to an end, and after a fault
-    // this would give the same fault again.
+    // The next event, if there is one. No `Iterator`: one has to come to an end, and a fault does not
+    // end this.
     pub fn next_event(&mut self) -> Result<Option<Event>, Fault>
         ensures { (most : ℕ) (text : Bytes ℕ) (k : Kind) (es : Events) → Reads most text k es self.old → MatchResult result (λ o. MatchOption o (Yields most text (Ok (k, es))) (λ e. Reads most text k (es ++ e ∷ []) self.new × (length (ahead self.new.reader) < length (ahead self.old.reader)))) (λ f. Yields most text (Err f)) }
     {

@@ -1,4 +1,4 @@
--- Every word of the test-and-set lock after every call.
+-- Every word of the test-and-set lock after every call that is let through; `lock/specs/Calls.antt` says which calls are.
 use Rattle.std.specs.Prelude.{◌≡◌, ℕ, Bool, true, false, length, replicate, Some, None, Ok, Err, Option, slice_index_or, slice_set}
 use Rattle.lock.specs.declared.place.Place.{Place}
 use Rattle.lock.specs.declared.place.Place.TheVariants.{Out, Waiting, Inside, Leaving}

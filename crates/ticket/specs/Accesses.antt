@@ -1,4 +1,4 @@
--- Every word of the ticket lock after every call.
+-- Every word of the ticket lock after every call that is let through; `lock/specs/Calls.antt` says which calls are.
 use Rattle.std.specs.Prelude.{ℕ, Bool, if◌then◌else◌, replicate, Some, None, Ok, Err, ◌==◌, slice_index_or, slice_set}
 use Rattle.lock.specs.declared.place.Place.{Place}
 use Rattle.lock.specs.declared.answer.Answer.TheVariants.{Done, Entered, Left}
